@@ -5,7 +5,7 @@
 The calls are made to fail by a small shim over the C library's read and write, built by gcc in a temporary folder. What has to come out is said in
 docs/REFERENCE.md: status 4 and `roombox: device`. After a read that fails, the answers to the objects of which the octet behind their end was read, whole;
 after a write that fails, all octets before it. The stream has a decline, a cancellation, a repeat and a revision. `keep`, `expand` and `explain` answer
-nothing after a read that fails. It prints each case that fails, and ends with 1 where one did.
+nothing after a read that fails, nor does the door before an object has ended. It prints each case that fails, and ends with 1 where one did.
 """
 
 import os
@@ -100,9 +100,11 @@ def served(cases, devices):
 
 
 def others(cases, devices):
-    """The other commands that read standard input: what they write comes after all of it."""
+    """The other commands that read standard input, and the door with one object: what they write comes after all of it."""
     stream = read("preamble") + read("request-a")
-    for words, given in ((["keep", R1], stream), (["keep", "--certificate", R1], stream), (["expand"], read("request-a")), (["explain"], read("request-a"))):
+    request = read("request-a")
+    rows = (["keep", R1], stream), (["keep", "--certificate", R1], stream), (["expand"], request), (["explain"], request), (["adapt"], request), (["serve", "--adapt"], stream)
+    for words, given in rows:
         what = " ".join(words[:2])
         status, out, said = devices.run(words, given)
         cases.holds(f"{what}, no call fails", (status, said), (0, b""))

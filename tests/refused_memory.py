@@ -64,6 +64,15 @@ NEW_YORK = "-0500 -0400 11 1SU 0200 3 2SU 0200"
 REFUSED = b"BEGIN:VCALENDAR\r\nVERSION:2.0\r\nMETHOD:PUBLISH\r\nEND:VCALENDAR\r\n"
 
 
+def shim_in(folder):
+    """Builds the shim in a folder."""
+    source, shim = os.path.join(folder, "shim.c"), os.path.join(folder, "shim.so")
+    with open(source, "w", encoding="ascii") as file:
+        file.write(SHIM)
+    subprocess.run(["gcc", "-shared", "-fPIC", "-O1", "-o", shim, source, "-ldl"], check=True)
+    return shim
+
+
 def meaning_of(program, number):
     return subprocess.run([program, "explain", str(number)], capture_output=True, check=True).stdout
 
@@ -175,10 +184,7 @@ def sweep_schedule(program, place, shim):
 def main():
     program = sys.argv[1]
     with tempfile.TemporaryDirectory() as folder:
-        source, shim = os.path.join(folder, "shim.c"), os.path.join(folder, "shim.so")
-        with open(source, "w", encoding="ascii") as file:
-            file.write(SHIM)
-        subprocess.run(["gcc", "-shared", "-fPIC", "-O1", "-o", shim, source, "-ldl"], check=True)
+        shim = shim_in(folder)
         accepted, declined = read("accepted-a"), read("declined-b")
         room = "mailto:r1@example.com"
         decline = read("preamble", "request-a", "request-b-busy")
@@ -247,4 +253,5 @@ def main():
             print("{}: {} allocations, each refused in turn".format(*sweep_schedule(sys.argv[2], place, shim)))
 
 
-main()
+if __name__ == "__main__":
+    main()

@@ -15,7 +15,7 @@ use Rattle.cal_events.specs.Series.{series_said}
 use Rattle.cal_events.specs.declared.series.Series.{Series}
 use Rattle.cal_events.proofs.shared_lemmas.InOneOrder.{append_pairs, head_pairs, tail_pairs, first_or_later, none_in}
 use Rattle.cal_events.proofs.shared_lemmas.Overlaps.{later_of, earlier_of}
-use Rattle.cal_agenda.specs.InSpan.{AreAllInSpan, Keeps}
+use Rattle.cal_agenda.specs.InSpan.{AreAllInSpan, AddsInSpan}
 
 -- what holds of each two in order holds of one and a later one
 pub across : {X : Type 0} (R : X → X → Type 0) (xs ys : List X) (x y : X) → AllPairs R (xs ++ y ∷ ys) → Contains xs x → R x y
@@ -97,7 +97,7 @@ module _ (from until : ℤ) where
   pub none_sofar : (all : List Instance) → AreSofar all all []
   none_sofar all = record { done = []; is = refl; gathered = nothing (Contains []) (λ a c within. none_in a c) }
 
-  pub one_more : (all left rest found new : List Instance) (one : Instance) → HaveDifferentKeys all → left ≡ one ∷ rest → AreSofar all left found → Keeps from until one found new → AreSofar all rest new
+  pub one_more : (all left rest found new : List Instance) (one : Instance) → HaveDifferentKeys all → left ≡ one ∷ rest → AreSofar all left found → AddsInSpan from until one found new → AreSofar all rest new
   one_more all left rest found new one differ e sofar (added, is, kept) =
       let done = sofar.done in
       let whole : all ≡ done ++ one ∷ rest = sofar.is ∙ ap (λ l. done ++ l) e in

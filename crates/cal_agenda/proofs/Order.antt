@@ -1,11 +1,11 @@
 -- What was gathered, put in order, is an agenda.
-use Rattle.std.proofs.Common.{◌≡◌, ◌≢◌, ◌∙◌, ◌+◌, ◌<◌, false, List, [], ◌∷◌, map, length, get_or, refl, sym, ap, inl, inr, arith, ℤ, Ordering}
+use Rattle.std.proofs.Common.{◌≡◌, ◌≢◌, ◌∙◌, ◌+◌, ◌<◌, false, List, [], ◌∷◌, map, length, get_or, refl, sym, ap, arith, ℤ, Ordering}
 use Rattle.std.specs.Prelude.{AllPairs}
 use Rattle.std.specs.declared.cmp.Ordering.TheVariants.{Less, Equal, Greater}
 use Rattle.std.specs.Cmp.{IsTotalOrder}
 use Rattle.std.specs.Ordering.{is_lt, int_cmp, ordering_then, ordering_reverse}
 use Rattle.std.specs.List.Sorted.{IsPermutation, IsSortedBy, IsSortedByKey}
-use Rattle.std.proofs.lemmas.Bool.{cases_order, true≢false}
+use Rattle.std.proofs.lemmas.Bool.{true≢false}
 use Rattle.std.proofs.lemmas.Cmp.{on_total, then_total, int_cmp_total}
 use Rattle.std.proofs.lemmas.List.{get_or-map, length-map}
 use Rattle.std.proofs.lemmas.List.Sorted.{sorted_far, ranks_by, Contains-permutation, IsPermutation-map, IsPermutation-sym}
@@ -14,7 +14,7 @@ use Rattle.profile.specs.checker.Agendas.{AreInSpan}
 use Rattle.cal_events.specs.Calendar.{HaveDifferentKeys, instance_of}
 use Rattle.cal_events.specs.declared.instance.Instance.{Instance}
 use Rattle.cal_events.proofs.draft_lemmas.KeyLemmas.{key_total, key_exact}
-use Rattle.cal_events.proofs.shared_lemmas.Distinct.{Distinct, distinct_permutation}
+use Rattle.cal_events.proofs.shared_lemmas.Distinct.{pairs_permuted}
 use Rattle.cal_agenda.specs.InSpan.{AreAllInSpan}
 
 pub instance_total : IsTotalOrder instance_cmp
@@ -35,18 +35,8 @@ comes_first a b differ not = go (instance_cmp a b) refl
     go Equal e = absurd (differ (key_exact a.key b.key (tied (int_cmp a.start b.start) (key_cmp a.key b.key) e)))
     go Greater e = absurd (true≢false (sym (ap is_lt (instance_total.antisymm b a ∙ ap ordering_reverse e)) ∙ not))
 
-KeysDiffer : SaidInstance → SaidInstance → Type 0
-KeysDiffer a b = a.key ≢ b.key
-
 pub differ_permuted : (xs ys : List SaidInstance) → IsPermutation xs ys → HaveDifferentKeys xs → HaveDifferentKeys ys
-unfolding KeysDiffer
-differ_permuted xs ys same p =
-    let distinct : Distinct KeysDiffer xs = λ i j d hi hj ne e. elim (cases_order i j) [
-      | inl equal ↦ ne equal
-      | inr w ↦ elim w [ inl lt ↦ p i j d lt hj e | inr lt ↦ p j i d lt hi (sym e) ]
-    ] in
-    let turned = distinct_permutation KeysDiffer xs ys same distinct in
-    λ i j d less within. turned i j d (omega (arith, less, within)) within (λ e. omega (arith, less, e))
+differ_permuted xs ys same p = pairs_permuted (λ a b. a.key ≢ b.key) (λ a b differ e. differ (sym e)) xs ys same p
 
 in_order : (xs : List SaidInstance) → IsSortedBy (λ a b. is_lt (instance_cmp a b)) xs → HaveDifferentKeys xs → AllPairs (λ a b. instance_cmp a b ≡ Less) xs
 in_order xs up differ i j d less within =

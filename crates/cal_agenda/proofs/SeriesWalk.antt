@@ -15,7 +15,7 @@ use Rattle.cal_events.specs.declared.instance.Instance.{Instance}
 use Rattle.cal_events.specs.declared.instances.Bound.{Bound}
 use Rattle.cal_events.specs.declared.instances.Instances.{Instances}
 use Rattle.cal_events.proofs.shared_lemmas.Overlaps.{abs_is}
-use Rattle.cal_agenda.specs.InSpan.{AreAllInSpan, Keeps}
+use Rattle.cal_agenda.specs.InSpan.{AreAllInSpan, AddsInSpan}
 use Rattle.cal_agenda.proofs.Gathering.{nothing, joined, renamed}
 
 -- an instance of the series that starts before a place
@@ -127,7 +127,7 @@ module _ (series : Event) (from until : ℤ) where
         )
 
         -- it was kept, if it is in the span
-        pub goes_on : (more : List SaidInstance) → Keeps from until it found more → IsAt series from until (i.start +ℤ pos 1) new more
+        pub goes_on : (more : List SaidInstance) → AddsInSpan from until it found more → IsAt series from until (i.start +ℤ pos 1) new more
         goes_on more (added, is, kept) = record {
           of = ap (λ e. said_meeting e.now) given.0 ∙ at.of;
           rest = later_left;

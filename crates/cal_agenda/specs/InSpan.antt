@@ -11,5 +11,5 @@ pub record AreAllInSpan (Is : Instance → Type 0) (from until : ℤ) (instances
   pub differ : HaveDifferentKeys instances
 
 -- an instance was added to others, if it is in the span
-abbrev pub Keeps : ℤ → ℤ → Instance → List Instance → List Instance → Type 0
-Keeps from until one old new = (added : List Instance) × (new ≡ old ++ added) × AreAllInSpan (λ a. a ≡ one) from until added
+abbrev pub AddsInSpan : ℤ → ℤ → Instance → List Instance → List Instance → Type 0
+AddsInSpan from until one old new = (added : List Instance) × (new ≡ old ++ added) × AreAllInSpan (λ a. a ≡ one) from until added

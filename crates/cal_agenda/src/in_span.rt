@@ -3,7 +3,7 @@ ghost use Rattle.std.specs.Prelude.{◌≡◌, ◌↔◌, ◌<ℤ◌, map, IsTru
 ghost use Rattle.std.specs.Int.{int_max, int_min};
 ghost use Rattle.profile.specs.checker.Agendas.{IsInSpan};
 ghost use Rattle.cal_events.specs.Calendar.{instance_of};
-ghost use Rattle.cal_agenda.specs.InSpan.{Keeps};
+ghost use Rattle.cal_agenda.specs.InSpan.{AddsInSpan};
 
 use cal_events::{Instance, Span};
 use std::alloc::AllocError;
@@ -14,7 +14,7 @@ pub(crate) fn keep<'a>(
     instance: Instance<'a>,
     span: Span,
 ) -> Result<(), AllocError>
-    ensures { OnOk result (Keeps span.start span.end (instance_of instance.entry) (map instance_of found.old.items) (map instance_of found.new.items)) }
+    ensures { OnOk result (AddsInSpan span.start span.end (instance_of instance.entry) (map instance_of found.old.items) (map instance_of found.new.items)) }
 {
     if !is_in_span(&instance, span) {
         return Ok(());

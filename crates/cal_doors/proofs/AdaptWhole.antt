@@ -11,7 +11,7 @@ use Rattle.profile.specs.doors.Uses.{NamesZone}
 use Rattle.profile.specs.doors.Adapting.{TakesPlace, IsZoneGiven, IsOf, IsAdapted, without_zones}
 use Rattle.cal_zones.specs.Kinds.{zone_of}
 use Rattle.cal_doors.specs.Used.{held, AreUses}
-use Rattle.cal_doors.specs.Adapted.{AreChanges, IsRight, MeansNow, AllMeanNow, AreGoingOn}
+use Rattle.cal_doors.specs.Adapted.{AreChanges, IsRightlyAdapted, MeansNow, AllMeanNow, AreGoingOn}
 use Rattle.cal_doors.specs.declared.uses.Use.{Use}
 use Rattle.cal_doors.specs.declared.choice.Choice.{Choice}
 use Rattle.cal_doors.proofs.ChangesHeld.{same_text, is_same, by_name, held_first, held_other, some_held}
@@ -47,7 +47,7 @@ module _ {X Y : Type 0} (before after : Tree) (uses : List (String X × Use)) (c
   step_given left k u rest is means s = one_given k u rest means (subst GivenSofar is s)
 
   pub is_right : (octets : List ℕ) → IsOf octets after → tree_own after ≡ tree_own before → without_zones after ≡ without_zones before → AllMeanNow before after uses changes
-      → IsRight before uses changes octets
+      → IsRightlyAdapted before uses changes octets
   is_right octets is own others means = record {
     after = after;
     is = is;
@@ -125,7 +125,7 @@ all_named changes left names none distinct s =
 -- ---- the whole
 
 module _ {X Y : Type 0} (listed : Option Tree) (octets adapted : List ℕ) (before : Tree) (uses : List (String X × Use)) (changes : List (String Y × Choice)) (names : List (List ℕ))
-    (are_uses : AreUses before uses) (are_changes : AreChanges listed before uses changes) (right : IsRight before uses changes adapted)
+    (are_uses : AreUses before uses) (are_changes : AreChanges listed before uses changes) (right : IsRightlyAdapted before uses changes adapted)
     (going_on : AreGoingOn changes names) where
   by_change : (name : List ℕ) (u : Use) (o : Option Choice) → held name uses ≡ Some u → held name changes ≡ o → IsZoneGiven listed before right.after name (list_any (bytes_eq name) names)
   by_change name u (Some c) used e =

@@ -10,7 +10,7 @@ use Rattle.profile.specs.text.Trees.{Tree}
 use Rattle.profile.specs.doors.Adapting.{TakesPlace}
 use Rattle.cal_zones.specs.Kinds.{zone_of}
 use Rattle.cal_doors.specs.Used.{held, AreUses}
-use Rattle.cal_doors.specs.Adapted.{IsUnread, IsReadable, IsUseFor, AreChanges}
+use Rattle.cal_doors.specs.Adapted.{IsZoneUnread, IsZoneReadable, IsUseFor, AreChanges}
 use Rattle.cal_doors.specs.declared.uses.Use.{Use}
 use Rattle.cal_doors.specs.declared.choice.Choice.{Choice}
 use Rattle.profile.specs.doors.Uses.{EventBeginsBy}
@@ -27,8 +27,8 @@ use_for object uses name u are e = record {
       w.2.to_last end (ap (λ (v : Use). v.last) (same_Some w.0 u (sym w.1 ∙ e)) ∙ h);
 }
 
-was_used : {X : Type 0} (object : Tree) (uses : List (String X × Use)) (name : List ℕ) (u : Use) → held name uses ≡ Some u → IsReadable object name ⊎ (None ≡ held name uses)
-    → IsReadable object name
+was_used : {X : Type 0} (object : Tree) (uses : List (String X × Use)) (name : List ℕ) (u : Use) → held name uses ≡ Some u → IsZoneReadable object name ⊎ (None ≡ held name uses)
+    → IsZoneReadable object name
 was_used object uses name u there (inl readable) = readable
 was_used object uses name u there (inr e) = absurd (none-some u (e ∙ there))
 
@@ -38,9 +38,9 @@ module _ {X Y : Type 0} (listed : Option Tree) (object : Tree) (uses : List (Str
     pub distinct : IsDistinct same_text (keys_of left)
     pub among : (name : List ℕ) (u : Use) → held name left ≡ Some u → held name uses ≡ Some u
     pub used : (name : List ℕ) (c : Choice) → held name changes ≡ Some c → (u : Use) × (held name uses ≡ Some u)
-    pub unread : (name : List ℕ) (c : Choice) → held name changes ≡ Some c → IsUnread object name
+    pub unread : (name : List ℕ) (c : Choice) → held name changes ≡ Some c → IsZoneUnread object name
     pub replaced : (name : List ℕ) (c : Choice) → held name changes ≡ Some c → TakesPlace listed object name c.goes_on (zone_of c.zone)
-    pub kept : (name : List ℕ) → held name changes ≡ None → IsReadable object name ⊎ (held name left ≡ held name uses)
+    pub kept : (name : List ℕ) → held name changes ≡ None → IsZoneReadable object name ⊎ (held name left ≡ held name uses)
 
   pub none_yet : IsDistinct same_text (keys_of uses) → Sofar uses []
   none_yet distinct = record {
@@ -62,20 +62,20 @@ module _ {X Y : Type 0} (listed : Option Tree) (object : Tree) (uses : List (Str
         (λ same. absurd (none-some v (sym (once k u rest s.distinct) ∙ ap (λ n. held n rest) (sym same) ∙ e)))
         (λ other. s.among name v (held_other name k u rest other ∙ e))
 
-    left_rest : (name : List ℕ) → bytes_eq name (string_bytes k) ≡ false → IsReadable object name ⊎ (held name ((k, u) ∷ rest) ≡ held name uses)
-        → IsReadable object name ⊎ (held name rest ≡ held name uses)
+    left_rest : (name : List ℕ) → bytes_eq name (string_bytes k) ≡ false → IsZoneReadable object name ⊎ (held name ((k, u) ∷ rest) ≡ held name uses)
+        → IsZoneReadable object name ⊎ (held name rest ≡ held name uses)
     left_rest name other (inl readable) = inl readable
     left_rest name other (inr e) = inr (sym (held_other name k u rest other) ∙ e)
 
     -- a room reads what the name means
-    pub next_read : IsReadable object (string_bytes k) → Sofar ((k, u) ∷ rest) changes → Sofar rest changes
+    pub next_read : IsZoneReadable object (string_bytes k) → Sofar ((k, u) ∷ rest) changes → Sofar rest changes
     next_read readable s = record {
       distinct = later_distinct k u rest s.distinct;
       among = among_rest s;
       used = s.used;
       unread = s.unread;
       replaced = s.replaced;
-      kept = λ name e. by_name name (string_bytes k) (λ same. inl (subst (IsReadable object) (sym same) readable)) (λ other. left_rest name other (s.kept name e));
+      kept = λ name e. by_name name (string_bytes k) (λ same. inl (subst (IsZoneReadable object) (sym same) readable)) (λ other. left_rest name other (s.kept name e));
     }
 
     module _ (key : String Y) (c : Choice) (same_key : string_bytes key ≡ string_bytes k) where
@@ -90,13 +90,13 @@ module _ {X Y : Type 0} (listed : Option Tree) (object : Tree) (uses : List (Str
           (λ other. before other (ap (λ b. cond b (Some c) (held name changes)) (sym other) ∙ sym (looked name) ∙ e))
 
       -- something takes the place of it
-      pub next_changed : IsUnread object (string_bytes k) → TakesPlace listed object (string_bytes k) c.goes_on (zone_of c.zone) → Sofar ((k, u) ∷ rest) changes
+      pub next_changed : IsZoneUnread object (string_bytes k) → TakesPlace listed object (string_bytes k) c.goes_on (zone_of c.zone) → Sofar ((k, u) ∷ rest) changes
           → Sofar rest (insert_entry same_text changes key c)
       next_changed unread takes s = record {
         distinct = later_distinct k u rest s.distinct;
         among = among_rest s;
         used = λ name d e. by_held name (Some d) e (λ same is. (u, ap (λ n. held n uses) same ∙ held_here s)) (λ other before. s.used name d before);
-        unread = λ name d e. by_held name (Some d) e (λ same is. subst (IsUnread object) (sym same) unread) (λ other before. s.unread name d before);
+        unread = λ name d e. by_held name (Some d) e (λ same is. subst (IsZoneUnread object) (sym same) unread) (λ other before. s.unread name d before);
         replaced = λ name d e. by_held name (Some d) e
             (λ same is. subst (λ (v : Choice). TakesPlace listed object name v.goes_on (zone_of v.zone)) (same_Some c d is)
             (subst (λ n. TakesPlace listed object n c.goes_on (zone_of c.zone)) (sym same) takes))
@@ -118,12 +118,12 @@ module _ {X Y : Type 0} (listed : Option Tree) (object : Tree) (uses : List (Str
   first_made left changes all none distinct = subst (λ l. Sofar l changes) (sym all) (subst (Sofar uses) (sym none) (none_yet distinct))
 
   pub step_read : (left : List (String X × Use)) (k : String X) (u : Use) (rest : List (String X × Use)) (changes : List (String Y × Choice)) → left ≡ (k, u) ∷ rest
-      → IsReadable object (string_bytes k) → Sofar left changes → Sofar rest changes
+      → IsZoneReadable object (string_bytes k) → Sofar left changes → Sofar rest changes
   step_read left k u rest changes is readable s = next_read k u rest changes readable (subst (λ l. Sofar l changes) is s)
 
   pub step_changed : (left : List (String X × Use)) (k : String X) (u : Use) (rest : List (String X × Use)) (changes new : List (String Y × Choice)) (key : String Y) (c : Choice)
       → left ≡ (k, u) ∷ rest → new ≡ insert_entry same_text changes key c → string_bytes key ≡ string_bytes k
-      → IsUnread object (string_bytes k) × TakesPlace listed object (string_bytes k) c.goes_on (zone_of c.zone) → Sofar left changes → Sofar rest new
+      → IsZoneUnread object (string_bytes k) × TakesPlace listed object (string_bytes k) c.goes_on (zone_of c.zone) → Sofar left changes → Sofar rest new
   step_changed left k u rest changes new key c is put same needed s =
       subst (Sofar rest) (sym put) (next_changed k u rest changes key c same needed.0 needed.1 (subst (λ l. Sofar l changes) is s))
 

@@ -11,7 +11,7 @@ use Rattle.profile.specs.doors.Adapting.{SaysNothing, IsListedZone, IsSameFor}
 use Rattle.profile.specs.series.GeneralZones.{Run}
 use Rattle.profile.specs.series.GeneralZoneTexts.{SaysGeneralZone}
 use Rattle.cal_zones.specs.Kinds.{zone_of}
-use Rattle.cal_doors.specs.Adapted.{listed_of, IsReadable, IsUnread, IsNeeded, IsMeantZone, IsUseFor}
+use Rattle.cal_doors.specs.Adapted.{listed_of, IsZoneReadable, IsZoneUnread, IsNeeded, IsMeantZone, IsUseFor}
 use Rattle.cal_doors.specs.declared.changes.Need.TheVariants.{Nothing, Change}
 use Rattle.cal_doors.specs.declared.uses.Use.{Use}
 use Rattle.cal_doors.specs.declared.choice.Choice.{Choice}
@@ -42,13 +42,13 @@ says_some None said h = absurd h
 says_some (Some part) said h = (part, refl, h)
 
 pub is_readable : (object : Tree) (name : List ℕ) (own : Option (Bor Component)) → option_map tree_at own ≡ zone_named name object
-    → (said : Zone) × SaysZoneOf (option_map tree_at own) said → IsReadable object name
+    → (said : Zone) × SaysZoneOf (option_map tree_at own) said → IsZoneReadable object name
 is_readable object name own e said =
     let w = says_some (option_map tree_at own) said.0 said.1 in
     (w.0, said.0, sym e ∙ w.1, w.2)
 
 pub is_unread : (object : Tree) (name : List ℕ) (own : Option (Bor Component)) → option_map tree_at own ≡ zone_named name object
-    → ((said : Zone) → SaysZoneOf (option_map tree_at own) said → ⊥) → IsUnread object name
+    → ((said : Zone) → SaysZoneOf (option_map tree_at own) said → ⊥) → IsZoneUnread object name
 is_unread object name own e none = subst (λ (o : Option Tree). (said : Zone) → SaysZoneOf o said → ⊥) e none
 
 -- ---- what has to be done

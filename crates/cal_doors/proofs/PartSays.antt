@@ -21,7 +21,7 @@ use Rattle.ical_tree.proofs.OneLine.{the_line}
 use Rattle.cal_doors.specs.Ends.{end_of}
 use Rattle.cal_doors.specs.Listed.{HasStart}
 use Rattle.cal_doors.specs.Runs.{run_of, runs_in}
-use Rattle.cal_doors.specs.Reading.{ending_of, SpellsNoRuleOf, AreTimes, HasTimes, AddsFirst, AddsYearly, AddsDays, AddsRuns, AddsLine, AddsDates, AddsPart, DateFault, LineFault, DatesFault}
+use Rattle.cal_doors.specs.Reading.{ending_of, SpellsNoRuleOf, AreTimes, HasTimes, AddsFirst, AddsYearly, AddsDays, AddsRuns, AddsDatesOf, AddsDates, AddsPart, DateFault, LineFault, DatesFault}
 use Rattle.cal_doors.specs.declared.run.Run as kept
 use Rattle.cal_doors.specs.declared.rule.EndingRule.{EndingRule}
 use Rattle.cal_doors.proofs.RuleDays.{starting, some_start, said_bound}
@@ -243,7 +243,7 @@ module _ (from to : ℤ) (lines : Lines) where
       ∙ ap (λ b. done ++ cond b (line ∷ lines_named (codes "RDATE") rest) (lines_named (codes "RDATE") rest)) h
 
   pub line_added : (left rest : Lines) (line : List ℕ) (old mid new : List Run) → LinesAdded from to lines left old mid → left ≡ line ∷ rest → is_of (codes "RDATE") line ≡ true
-      → AddsLine from to line mid new → LinesAdded from to lines rest old new
+      → AddsDatesOf from to line mid new → LinesAdded from to lines rest old new
   line_added left rest line old mid new t s h (dates, is, adds) = record {
     done = t.done ++ line ∷ [];
     parted = named_next left rest t.done line t.parted s h ∙ sym (append_assoc t.done (line ∷ []) (lines_named (codes "RDATE") rest));

@@ -12,7 +12,7 @@ use Rattle.profile.specs.series.ZoneTexts.{SaysZone}
 use Rattle.profile.specs.events.ZonedTimes.{zone_named}
 use Rattle.profile.specs.doors.Adapting.{IsOf, without_zones}
 use Rattle.cal_zones.specs.Kinds.{zone_of}
-use Rattle.cal_doors.specs.Adapted.{MeansNow, AllMeanNow, IsRight, others_among}
+use Rattle.cal_doors.specs.Adapted.{MeansNow, AllMeanNow, IsRightlyAdapted, others_among}
 use Rattle.cal_doors.specs.declared.uses.Use.{Use}
 use Rattle.cal_doors.specs.declared.choice.Choice.{Choice}
 use Rattle.cal_doors.proofs.ChangesNamed.{tree_at}
@@ -61,7 +61,7 @@ is_of octets text object read spelled = record { lines = read.1; spelled = subst
 
 pub judged : {X Y : Type 0} (before zoned after now : Component) (uses : List (String X × Use)) (changes : List (String Y × Choice)) (octets : List ℕ) → zoned ≡ before → now ≡ after
     → IsOf octets (tree_of after) → tree_own (tree_of after) ≡ tree_own (tree_of before) → without_zones (tree_of after) ≡ without_zones (tree_of before)
-    → AllMeanNow (tree_of zoned) (tree_of now) uses changes → IsRight (tree_of before) uses changes octets
+    → AllMeanNow (tree_of zoned) (tree_of now) uses changes → IsRightlyAdapted (tree_of before) uses changes octets
 judged before zoned after now uses changes octets b a is own others means =
     whole.is_right (tree_of before) (tree_of after) uses changes octets is own others
     (subst (λ (c : Component). AllMeanNow (tree_of before) (tree_of c) uses changes) a

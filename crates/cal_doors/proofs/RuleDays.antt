@@ -21,7 +21,7 @@ use Rattle.cal_doors.specs.Ends.{IsNearInstant}
 use Rattle.cal_doors.specs.Reading.{IsLastFrom, AreDaysTo, AreNoDaysTo}
 use Rattle.cal_doors.specs.declared.rule.Last.{Last}
 use Rattle.cal_doors.specs.declared.rule.Last.TheVariants.{Never, Before, Far, On}
-use Rattle.cal_doors.specs.Listed.{HasStart, days_to, AreDaysOf, AreMany}
+use Rattle.cal_doors.specs.Listed.{HasStart, days_to, AreListedDays, AreMany}
 
 -- ---- DTSTART
 
@@ -171,7 +171,7 @@ module _ (start from : ℤ) (text : List ℕ) (first : ℕ) (rule : RuleText) (i
   }
 
   pub days_said : (o : Observance) (end : End) (last : ℕ) (days : List ℕ) → HasStart start from o → IsEndOf from rule.count rule.until end → IsLastOnsetDay o end last → last ≤ o.day + 14_610
-      → AreDaysOf rule first last days → SpellsOnsetDays o text days
+      → AreListedDays rule first last days → SpellsOnsetDays o text days
   days_said o end last days has ends allowed near (are, few) = record {
     rule = is.spelled_rule;
     spelled = is.spelled;
@@ -266,7 +266,7 @@ unfolding is_rule_day
 early_day r day h = ap (λ (b : Bool). b && is_within_count r day) (not_both r day h)
 
 -- none where the last day is before the first
-pub days_early : (rule : RuleText) (first last : ℕ) → last < first → AreDaysOf rule first last []
+pub days_early : (rule : RuleText) (first last : ℕ) → last < first → AreListedDays rule first last []
 unfolding rule_days_from
 days_early rule first last h = (sym (none_pass _ _ (λ day. early_day (rule_of rule first last) day h)), omega arith)
 
@@ -309,7 +309,7 @@ module _ (start from : ℤ) (text : List ℕ) (first : ℕ) (rule : RuleText) (i
   days_to_last o end Before days has ends until h =
       let early = until o has in
       let before : early.0 < first = omega (arith, early.2, is.here o has) in
-      days_said start from text first rule is o end early.0 days has ends early.1 (omega (arith, early.2)) (subst (AreDaysOf rule first early.0) (sym h) (days_early rule first early.0 before))
+      days_said start from text first rule is o end early.0 days has ends early.1 (omega (arith, early.2)) (subst (AreListedDays rule first early.0) (sym h) (days_early rule first early.0 before))
   days_to_last o end Far days has ends until h = absurd h
   days_to_last o end (On last) days has ends until h = let there = until o has in days_said start from text first rule is o end (day_index last) days has ends there.0 there.1 h
 

@@ -14,7 +14,7 @@ use Rattle.ical_tree.specs.Tree.{component_lines, component_children, tree_of}
 use Rattle.ical_tree.proofs.TreeOfLemmas.{tree_of-own}
 use Rattle.cal_doors.proofs.UsesEvents.{events_are}
 use Rattle.cal_doors.proofs.ToldWords.{alone}
-use Rattle.cal_doors.specs.Told.{events_among, HasItsZone, IsTold, IsAnswered, IsReturnedBy, IsSingleOf}
+use Rattle.cal_doors.specs.Told.{events_among, HasItsZone, TellsAnswer, IsAnswerTold, IsReturnedBy, IsSingleOf}
 
 -- octets that were read as an object
 pub object_there : (octets : List ℕ) (text : List (List ℕ)) (object : Component) → text ≡ logical_lines octets → reads_as_lines true octets ≡ true → IsObject true (tree_of object) text
@@ -34,7 +34,7 @@ pub told_right : (asked read : Tree) (told given : Component) (octets : List ℕ
     → IsObject true (tree_of given) text → component_lines given ≡ component_lines told
     → AllZip (AllZip (TellsSame read (tree_of told))) (events_among (component_children told)) (events_among (component_children given))
     → ((name line : List ℕ) (lines : List (List ℕ)) → Contains (events_among (component_children given)) lines → IsLineIn name lines line → HasItsZone (tree_of given) asked read name)
-    → IsTold asked read (tree_of told) octets
+    → TellsAnswer asked read (tree_of told) octets
 told_right asked read told given octets text lines reads spelled own events zones = record {
   given = tree_of given;
   is_given = object_there octets text given lines reads spelled;
@@ -45,13 +45,13 @@ told_right asked read told given octets text lines reads spelled own events zone
 }
 
 pub answered_right : (asked read : Tree) (told : Component) (answer octets : List ℕ) (text : List (List ℕ)) → text ≡ logical_lines answer → reads_as_lines true answer ≡ true
-    → IsObject true (tree_of told) text → IsTold asked read (tree_of told) octets → IsAnswered asked read answer octets
+    → IsObject true (tree_of told) text → TellsAnswer asked read (tree_of told) octets → IsAnswerTold asked read answer octets
 answered_right asked read told answer octets text lines reads spelled right =
     record { told = tree_of told; is_told = object_there answer text told lines reads spelled; right = right }
 
 pub returned_by : (asked read : Component) (original readable answer octets : List ℕ) (text other : List (List ℕ)) → text ≡ logical_lines original → reads_as_lines true original ≡ true
     → IsObject true (tree_of asked) text → other ≡ logical_lines readable → reads_as_lines true readable ≡ true → IsObject true (tree_of read) other
-    → IsAnswered (tree_of asked) (tree_of read) answer octets → IsReturnedBy original readable answer octets
+    → IsAnswerTold (tree_of asked) (tree_of read) answer octets → IsReturnedBy original readable answer octets
 returned_by asked read original readable answer octets text other al ar at rl rr rt answered = record {
   asked = tree_of asked;
   is_asked = object_there original text asked al ar at;

@@ -17,17 +17,17 @@ use Rattle.ical_tree.specs.Tree.{component_lines, component_children, tree_of}
 use Rattle.cal_doors.proofs.UsesEvents.{events_are}
 use Rattle.cal_doors.proofs.UsesScans.{none_in}
 use Rattle.cal_doors.proofs.ToldEvents.{event_in}
-use Rattle.cal_doors.specs.Told.{is_event, events_among, IsInstanceOf, AreInstancesOf, NamesInstance, AreWords, NamesSame, AreSameZone}
+use Rattle.cal_doors.specs.Told.{is_event, events_among, IsInstanceOf, AreAllInstancesOf, NamesInstance, AreWordsOf, NamesSame, AreSameZone}
 
 -- the instance that stands at a place
 pub instance_at : (read answer : Tree) (words : Words) (items : List Instance) (line : List ℕ) (i : ℕ) (d : Instance) (t : ℤ) → items ≡ words.instances.items → i < length items
-    → (get_or items i d).instant ≡ t → is_of (codes "RECURRENCE-ID") line ≡ true → SaysInstant answer line Fixed t → AreWords read answer words
+    → (get_or items i d).instant ≡ t → is_of (codes "RECURRENCE-ID") line ≡ true → SaysInstant answer line Fixed t → AreWordsOf read answer words
     → NamesSame read answer line (get_or items i d).text.now
 instance_at read answer words items line i d t all w same is says are = record {
   instant = t;
   is = is;
   says = says;
-  names = subst (NamesInstance read (get_or items i d).text.now) same (All-get_or (IsInstanceOf read) items i d w (subst (AreInstancesOf read) (sym all) are.instances));
+  names = subst (NamesInstance read (get_or items i d).text.now) same (All-get_or (IsInstanceOf read) items i d w (subst (AreAllInstancesOf read) (sym all) are.instances));
 }
 
 -- a VEVENT that stands at a place of an object
@@ -38,7 +38,7 @@ event_of object items i d are w is =
 
 -- one instance more
 pub instance_more : (object : Tree) (lines : List (List ℕ)) (old : List Instance) (i : Instance) → Contains (vevents object) lines → Contains lines i.text.now
-    → is_of (codes "RECURRENCE-ID") i.text.now ≡ true → SaysInstant object i.text.now Fixed i.instant → AreInstancesOf object old → AreInstancesOf object (old ++ i ∷ [])
+    → is_of (codes "RECURRENCE-ID") i.text.now ≡ true → SaysInstant object i.text.now Fixed i.instant → AreAllInstancesOf object old → AreAllInstancesOf object (old ++ i ∷ [])
 instance_more object lines old i event among is says are =
     All-push (IsInstanceOf object) old i are (record { lines = lines; event = event; among = among; is = is; says = says })
 

@@ -10,7 +10,7 @@ use Rattle.profile.specs.series.GeneralZones.{Run, IsRunOnset, IsGeneralOnset, I
 use Rattle.cal_doors.specs.Runs.{runs_in}
 use Rattle.cal_doors.specs.declared.run.Run as kept
 use Rattle.profile.specs.doors.Adapting.{IsSameFor, as_long, beyond}
-use Rattle.cal_doors.specs.Between.{HasBegun, AreSameUpTo, LastsAsLong, GoesOn}
+use Rattle.cal_doors.specs.Between.{HasOnsetBy, AreSameUpTo, LastsAsLong, GoesOnFrom}
 
 -- ---- the offset in force
 
@@ -70,7 +70,7 @@ module _ (At Bt : ℤ → ℤ → Type 0) (A B : Onset → Type 0) (from to loca
 
 -- ---- a zone
 
-module _ (zone other : List Run) (from to : ℤ) (same : AreSameUpTo to zone other) (begun : HasBegun zone from)
+module _ (zone other : List Run) (from to : ℤ) (same : AreSameUpTo to zone other) (begun : HasOnsetBy zone from)
     (near : AreOffsets (IsGeneralOffsetAt zone) (IsGeneralOnset zone)) (near_other : AreOffsets (IsGeneralOffsetAt other) (IsGeneralOnset other)) where
   there : (x : Onset) → x.instant ≤ℤ to → IsGeneralOnset zone x → IsGeneralOnset other x
   there x l = (same x l).0
@@ -114,7 +114,7 @@ pub are_offsets : (runs : List kept.Run) → AreOffsets (IsGeneralOffsetAt (runs
 are_offsets runs = record { offsets = offset_in_force runs; ended = λ x is. (onset_offsets runs x is).0 }
 
 -- so a zone that does the same as other runs from the first instant on does the same as these up to the second
-pub runs_between : (runs others : List kept.Run) (from to : ℤ) (z : Zone) → AreSameUpTo to (runs_in runs) (runs_in others) → HasBegun (runs_in runs) from
+pub runs_between : (runs others : List kept.Run) (from to : ℤ) (z : Zone) → AreSameUpTo to (runs_in runs) (runs_in others) → HasOnsetBy (runs_in runs) from
     → IsSameFrom (runs_in others) z from → IsSameBetween (runs_in runs) z from to
 runs_between runs others from to z same begun h = between (runs_in runs) (runs_in others) from to same begun (are_offsets runs) (are_offsets others) z h
 
@@ -124,6 +124,6 @@ runs_between runs others from to z same begun h = between (runs_in runs) (runs_i
 pub lasts_as_long : (zone : List Run) (z : Zone) (first from : ℤ) (last : Option ℤ) → from ≡ first -ℤ pos 86_399 → LastsAsLong zone z from last → IsSameFor zone z false first last
 lasts_as_long zone z first from last e (end, is, same) = as_long end refl is (subst (λ f. IsSameBetween zone z f (end +ℤ pos 86_399)) e same)
 
-pub goes_on_beyond : (zone : List Run) (z : Zone) (goes_on : Bool) (first from : ℤ) (last : Option ℤ) → from ≡ first -ℤ pos 86_399 → GoesOn zone z goes_on from
+pub goes_on_beyond : (zone : List Run) (z : Zone) (goes_on : Bool) (first from : ℤ) (last : Option ℤ) → from ≡ first -ℤ pos 86_399 → GoesOnFrom zone z goes_on from
     → IsSameFor zone z goes_on first last
 goes_on_beyond zone z goes_on first from last e (to, does, late, over, same) = beyond to does late over (subst (λ f. IsSameBetween zone z f to) e same)

@@ -12,7 +12,7 @@ use Rattle.profile.specs.text.Lines.{line_param}
 use Rattle.profile.specs.events.Properties.{is_of}
 use Rattle.profile.specs.doors.Uses.{is_time_line, SaysLocal, IsLineIn, LastsDays, EventEndsBy}
 use Rattle.cal_doors.specs.declared.uses.Use.{Use}
-use Rattle.cal_doors.specs.Used.{held, Covers, AreUsesOf, AreUsesWith, IsAsWide, IsWidened, AddsLine, AllBeginBy}
+use Rattle.cal_doors.specs.Used.{held, CoversEvent, AreUsesOf, AreUsesWith, IsAsWide, IsWidened, AddsUsesOf, AllBeginBy}
 use Rattle.cal_doors.specs.Used.AddsLine.{names_none, names_one}
 use Rattle.cal_doors.proofs.UsesScans.{none_in, of_filtered}
 use Rattle.cal_doors.proofs.UsesLines.{through, event_later}
@@ -30,7 +30,7 @@ as_wide_through u v w a b = record {
 
 -- ---- a VEVENT
 
-wide_enough : (u w : Use) (name : List ℕ) (lines : List (List ℕ)) → IsAsWide u w → Covers name lines u → Covers name lines w
+wide_enough : (u w : Use) (name : List ℕ) (lines : List (List ℕ)) → IsAsWide u w → CoversEvent name lines u → CoversEvent name lines w
 wide_enough u w name lines wide c = record {
   from_first = record {
     times = λ line local is s. through w.first u.first local wide.first (c.from_first.times line local is s);
@@ -43,7 +43,7 @@ wide_enough u w name lines wide c = record {
 
 -- a use that is as wide as the whole VEVENT, and as each line of it in the zone
 covered : (whole w : Use) (name : List ℕ) (lines : List (List ℕ)) → AllBeginBy lines whole.first → ((end : ℤ) → whole.last ≡ Some end → EventEndsBy lines end) → IsAsWide whole w
-    → ((line : List ℕ) (local : ℤ) → IsLineIn name lines line → SaysLocal line local → w.first ≤ℤ local) → Covers name lines w
+    → ((line : List ℕ) (local : ℤ) → IsLineIn name lines line → SaysLocal line local → w.first ≤ℤ local) → CoversEvent name lines w
 covered whole w name lines begins ends wide locals = record {
   from_first = record {
     times = locals;
@@ -159,7 +159,7 @@ module _ {Y : Type 0} where
   line_passed whole old now done line plain a = passed whole old now done line (λ name is. absurd (true≢false (sym is ∙ plain))) a
 
   pub line_added : (whole : Use) (old now next : List (String Y × Use)) (done : List (List ℕ)) (line : List ℕ) → is_time_line line ≡ true
-      → AddsLine line whole now next → AreAdded whole old done now → AreAdded whole old (done ++ line ∷ []) next
+      → AddsUsesOf line whole now next → AreAdded whole old done now → AreAdded whole old (done ++ line ∷ []) next
   line_added whole old now next done line times (names_none none same) a =
       subst (AreAdded whole old (done ++ line ∷ [])) (sym same) (passed whole old now done line (λ name is zone. absurd (none-some name (sym none ∙ zone))) a)
   line_added whole old now next done line times (names_one name more zone wide locals w) a = record {
@@ -198,7 +198,7 @@ module _ {Y : Type 0} where
       | inr same ↦
           let here : IsLineIn name lines line = subst (λ x. IsLineIn name x line) (sym same) is in
           let t = a.there name line here.among here.says_times here.in_zone in
-          (t.0, t.1, subst (λ x. Covers name x t.0) same (covered whole t.0 name lines begins ends t.2 (each name t.0 t.1)))
+          (t.0, t.1, subst (λ x. CoversEvent name x t.0) same (covered whole t.0 name lines begins ends t.2 (each name t.0 t.1)))
     ];
     named = λ name w h. elim (a.no_more name w h) [
       | inl v ↦ let n = u.named name v.0 v.1 in (n.0, n.1, Contains-append_left events (lines ∷ []) n.0 n.2, n.3)

@@ -32,17 +32,17 @@ abbrev pub list_of : Option (Bor Component) → Option Tree
 list_of listed = option_map (λ object. tree_of object.now) listed
 
 -- it is a list
-abbrev pub AreListed : Option (Bor NamedZones) → Type 0
-AreListed None = Unit {0}
-AreListed (Some zones) = AreNamed zones.now
+abbrev pub IsListOfZones : Option (Bor NamedZones) → Type 0
+IsListOfZones None = Unit {0}
+IsListOfZones (Some zones) = AreNamed zones.now
 
 -- no room reads what the name means in the object
-abbrev pub IsUnread : Tree → List ℕ → Type 0
-IsUnread object name = (zone : Zone) → SaysZoneOf (zone_named name object) zone → ⊥
+abbrev pub IsZoneUnread : Tree → List ℕ → Type 0
+IsZoneUnread object name = (zone : Zone) → SaysZoneOf (zone_named name object) zone → ⊥
 
 -- a room reads it
-abbrev pub IsReadable : Tree → List ℕ → Type 0
-IsReadable object name = (part : Tree) × (zone : Zone) × (zone_named name object ≡ Some part) × SaysZone part zone
+abbrev pub IsZoneReadable : Tree → List ℕ → Type 0
+IsZoneReadable object name = (part : Tree) × (zone : Zone) × (zone_named name object ≡ Some part) × SaysZone part zone
 
 -- a use is about all times that the object names in a zone, and about when they end
 pub record IsUseFor (object : Tree) (name : List ℕ) (u : Use) : Type 0 where
@@ -55,19 +55,19 @@ IsMeantZone listed object name zone = (meant : Tree) × IsMeant listed object na
 
 -- what has to be done for a name: nothing where a room reads what it means, else something may take the place of that
 abbrev pub IsNeeded : Option Tree → Tree → List ℕ → Need → Type 0
-IsNeeded listed object name Nothing = IsReadable object name
-IsNeeded listed object name (Change c) = IsUnread object name × TakesPlace listed object name c.goes_on (zone_of c.zone)
+IsNeeded listed object name Nothing = IsZoneReadable object name
+IsNeeded listed object name (Change c) = IsZoneUnread object name × TakesPlace listed object name c.goes_on (zone_of c.zone)
 IsNeeded listed object name Lost = Unit {0}
 
 -- these take the place of what the object's names mean that no room reads; the others are read
 pub record AreChanges {X Y : Type 0} (listed : Option Tree) (object : Tree) (uses : List (String X × Use)) (changes : List (String Y × Choice)) : Type 0 where
   pub used : (name : List ℕ) (c : Choice) → held name changes ≡ Some c → (u : Use) × (held name uses ≡ Some u)
-  pub unread : (name : List ℕ) (c : Choice) → held name changes ≡ Some c → IsUnread object name
+  pub unread : (name : List ℕ) (c : Choice) → held name changes ≡ Some c → IsZoneUnread object name
   pub replaced : (name : List ℕ) (c : Choice) → held name changes ≡ Some c → TakesPlace listed object name c.goes_on (zone_of c.zone)
-  pub kept : (name : List ℕ) (u : Use) → held name uses ≡ Some u → held name changes ≡ None → IsReadable object name
+  pub kept : (name : List ℕ) (u : Use) → held name uses ≡ Some u → held name changes ≡ None → IsZoneReadable object name
 
 -- the octets are an object with the lines of another, but for VTIMEZONEs. Each name that is used means its change, or what it meant before
-pub record IsRight {X Y : Type 0} (before : Tree) (uses : List (String X × Use)) (changes : List (String Y × Choice)) (octets : List ℕ) : Type 0 where
+pub record IsRightlyAdapted {X Y : Type 0} (before : Tree) (uses : List (String X × Use)) (changes : List (String Y × Choice)) (octets : List ℕ) : Type 0 where
   pub after : Tree
   pub is : IsOf octets after
   pub own : tree_own after ≡ tree_own before

@@ -9,8 +9,8 @@ abbrev pub HasRunBegun : Run → ℤ → Type 0
 HasRunBegun run instant = (onset : Onset) × IsRunOnset run onset × (onset.instant ≤ℤ instant)
 
 -- an onset has come
-abbrev pub HasBegun : List Run → ℤ → Type 0
-HasBegun zone instant = (onset : Onset) × IsGeneralOnset zone onset × (onset.instant ≤ℤ instant)
+abbrev pub HasOnsetBy : List Run → ℤ → Type 0
+HasOnsetBy zone instant = (onset : Onset) × IsGeneralOnset zone onset × (onset.instant ≤ℤ instant)
 
 -- up to an instant, an onset is in time for the one end where it is for the other
 abbrev pub IsSameEndUpTo : ℤ → End → End → Type 0
@@ -29,6 +29,6 @@ abbrev pub LastsAsLong : List Run → Zone → ℤ → Option ℤ → Type 0
 LastsAsLong zone other from last = (end : ℤ) × (last ≡ Some end) × IsSameBetween zone other from (end +ℤ pos 86_399)
 
 -- it does up to the end of the onsets before the end of times in 32 bits, in 2036 or later
-abbrev pub GoesOn : List Run → Zone → Bool → ℤ → Type 0
-GoesOn zone other goes_on from =
+abbrev pub GoesOnFrom : List Run → Zone → Bool → ℤ → Type 0
+GoesOnFrom zone other goes_on from =
     (to : ℤ) × (goes_on ≡ true) × (tables_end ≤ℤ to) × IsOverAt zone to × IsSameBetween zone other from to

@@ -5,9 +5,9 @@ use Rattle.cal_doors.specs.Passing.{PassesStill, PassesLatest, PassesFirst, Pass
 use Rattle.cal_doors.specs.declared.condition.Condition.{Condition}
 use Rattle.cal_doors.specs.declared.condition.Condition.TheVariants as the
 
-abbrev pub Passes : Condition → Onset → Type 0
-Passes (the.Still c) x = PassesStill c.instant c.sets x
-Passes (the.Latest c) x = PassesLatest c.instant c.latest c.sets x
-Passes (the.First c) x = PassesFirst c.first c.ends x
-Passes (the.Only c) x = PassesOnly c.instant c.only c.offset_from c.offset_to x
-Passes (the.Pair c) x = PassesPair c.instant (observance_of c.one.observance) (observance_of c.other.observance) x
+abbrev pub PassesCondition : Condition → Onset → Type 0
+PassesCondition (the.Still c) x = PassesStill c.instant c.sets x
+PassesCondition (the.Latest c) x = PassesLatest c.instant c.latest c.sets x
+PassesCondition (the.First c) x = PassesFirst c.first c.ends x
+PassesCondition (the.Only c) x = PassesOnly c.instant c.only c.offset_from c.offset_to x
+PassesCondition (the.Pair c) x = PassesPair c.instant (observance_of c.one.observance) (observance_of c.other.observance) x

@@ -14,8 +14,8 @@ abbrev pub days_to : RuleText → ℕ → ℕ → List ℕ
 days_to rule first last = rule_days_from (rule_of rule first last) first
 
 -- they are these, at most 200
-abbrev pub AreDaysOf : RuleText → ℕ → ℕ → List ℕ → Type 0
-AreDaysOf rule first last days = (days ≡ days_to rule first last) × (length days ≤ 200)
+abbrev pub AreListedDays : RuleText → ℕ → ℕ → List ℕ → Type 0
+AreListedDays rule first last days = (days ≡ days_to rule first last) × (length days ≤ 200)
 
 -- there are more
 abbrev pub AreMany : RuleText → ℕ → ℕ → Type 0

@@ -12,7 +12,7 @@ use Rattle.profile.specs.series.GeneralZoneTexts as texts
 use Rattle.profile.specs.series.GeneralZoneTexts.{IsRunAt, IsDatesLine, IsNoDatesLine, SaysDates, SpellsEnding, SpellsOnsetDays, SpellsNoOnsets, IsLastOnsetDay, AreFirstRuns, SaysRuns}
 use Rattle.cal_zones.specs.Shapes.{rule_named}
 use Rattle.cal_doors.specs.Ends.{end_of}
-use Rattle.cal_doors.specs.Listed.{HasStart, AreDaysOf, AreMany}
+use Rattle.cal_doors.specs.Listed.{HasStart, AreListedDays, AreMany}
 use Rattle.cal_doors.specs.Runs.{IsYearlyRun}
 use Rattle.cal_doors.specs.declared.rule.EndingRule.{EndingRule}
 use Rattle.cal_doors.specs.declared.rule.PartRule.{PartRule}
@@ -45,7 +45,7 @@ abbrev pub AreDaysTo : RuleText → ℕ → Last → List ℕ → Type 0
 AreDaysTo rule first Never days = ⊥
 AreDaysTo rule first Before days = days ≡ []
 AreDaysTo rule first Far days = ⊥
-AreDaysTo rule first (On last) days = AreDaysOf rule first (day_index last) days
+AreDaysTo rule first (On last) days = AreListedDays rule first (day_index last) days
 
 -- they don't end, or are too many
 abbrev pub AreNoDaysTo : RuleText → ℕ → Last → Type 0
@@ -96,8 +96,8 @@ abbrev pub AddsDate : ℤ → ℤ → List ℕ → List Run → List Run → Typ
 AddsDate from to text old new = (local : ℤ) × SpellsLocal text local × AddsRuns from to (local ∷ []) old new
 
 -- those of a line of RDATE were
-abbrev pub AddsLine : ℤ → ℤ → List ℕ → List Run → List Run → Type 0
-AddsLine from to line old new = (dates : List ℤ) × IsDatesLine line dates × AddsRuns from to dates old new
+abbrev pub AddsDatesOf : ℤ → ℤ → List ℕ → List Run → List Run → Type 0
+AddsDatesOf from to line old new = (dates : List ℤ) × IsDatesLine line dates × AddsRuns from to dates old new
 
 -- those of the RDATEs of a part were
 abbrev pub AddsDates : ℤ → ℤ → List (List ℕ) → List Run → List Run → Type 0

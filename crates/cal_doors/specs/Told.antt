@@ -50,14 +50,14 @@ pub record NamesInstance (object : Tree) (line : List ℕ) (instant : ℤ) : Typ
 abbrev pub IsInstanceOf : Tree → Instance → Type 0
 IsInstanceOf object i = NamesInstance object i.text.now i.instant
 
-abbrev pub AreInstancesOf : Tree → List Instance → Type 0
-AreInstancesOf object instances = All (IsInstanceOf object) instances
+abbrev pub AreAllInstancesOf : Tree → List Instance → Type 0
+AreAllInstancesOf object instances = All (IsInstanceOf object) instances
 
 -- the tables are about an object as a room reads it, and about an answer
-pub record AreWords (read answer : Tree) (words : Words) : Type 0 where
+pub record AreWordsOf (read answer : Tree) (words : Words) : Type 0 where
   pub read_zones : AreZonesOf read words.read.entries
   pub told_zones : AreZonesOf answer words.told.entries
-  pub instances : AreInstancesOf read words.instances.items
+  pub instances : AreAllInstancesOf read words.instances.items
 
 -- a line of the answer and one of the object name the same instance
 pub record NamesSame (read answer : Tree) (line other : List ℕ) : Type 0 where
@@ -75,7 +75,7 @@ abbrev pub HasItsZone : Tree → Tree → Tree → List ℕ → Type 0
 HasItsZone given asked read name = (zone : Tree) × (zone_named name given ≡ Some zone) × IsItsZone asked read name zone
 
 -- the octets are the answer in other words
-pub record IsTold (asked read answer : Tree) (octets : List ℕ) : Type 0 where
+pub record TellsAnswer (asked read answer : Tree) (octets : List ℕ) : Type 0 where
   pub given : Tree
   pub is_given : IsOf octets given
   pub own : tree_own given ≡ tree_own answer
@@ -83,10 +83,10 @@ pub record IsTold (asked read answer : Tree) (octets : List ℕ) : Type 0 where
   pub zones : (name : List ℕ) → NamesZone given name → HasItsZone given asked read name
 
 -- so it is with the octets of an answer
-pub record IsAnswered (asked read : Tree) (answer octets : List ℕ) : Type 0 where
+pub record IsAnswerTold (asked read : Tree) (answer octets : List ℕ) : Type 0 where
   pub told : Tree
   pub is_told : IsOf answer told
-  pub right : IsTold asked read told octets
+  pub right : TellsAnswer asked read told octets
 
 -- so it is where a room reads the object that octets are
 pub record IsReturnedBy (original readable answer octets : List ℕ) : Type 0 where
@@ -94,14 +94,14 @@ pub record IsReturnedBy (original readable answer octets : List ℕ) : Type 0 wh
   pub is_asked : IsOf original asked
   pub read : Tree
   pub is_read : IsOf readable read
-  pub answered : IsAnswered asked read answer octets
+  pub answered : IsAnswerTold asked read answer octets
 
 -- an object of one VEVENT: the own lines of the whole, and each name means the same VTIMEZONE
-pub record IsSingle (whole : Tree) (lines : List (List ℕ)) (part : Tree) : Type 0 where
+pub record IsOneEvent (whole : Tree) (lines : List (List ℕ)) (part : Tree) : Type 0 where
   pub only : vevents part ≡ lines ∷ []
   pub own : tree_own part ≡ tree_own whole
   pub zones : (name : List ℕ) → NamesZone part name → zone_named name part ≡ zone_named name whole
 
 -- the octets are one
 abbrev pub IsSingleOf : Tree → List (List ℕ) → List ℕ → Type 0
-IsSingleOf whole lines octets = (part : Tree) × IsOf octets part × IsSingle whole lines part
+IsSingleOf whole lines octets = (part : Tree) × IsOf octets part × IsOneEvent whole lines part

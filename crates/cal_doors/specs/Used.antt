@@ -16,14 +16,14 @@ abbrev pub held : {Y A : Type 0} → List ℕ → List (String Y × A) → Optio
 held name entries = lookup (λ key. bytes_eq name (string_bytes key)) entries
 
 -- a use is about what a VEVENT says in the zone of a name
-pub record Covers (name : List ℕ) (lines : List (List ℕ)) (u : Use) : Type 0 where
+pub record CoversEvent (name : List ℕ) (lines : List (List ℕ)) (u : Use) : Type 0 where
   pub from_first : EventBeginsBy name lines u.first
   pub to_last : (end : ℤ) → u.last ≡ Some end → EventEndsBy lines end
 
 -- of each zone that these VEVENTs name there is a use that is about all of them that name it, and of no other zone
 pub record AreUsesOf {Y : Type 0} (events : List (List (List ℕ))) (entries : List (String Y × Use)) : Type 0 where
   pub covered : (name : List ℕ) (lines : List (List ℕ)) (line : List ℕ) → Contains events lines → IsLineIn name lines line
-      → (u : Use) × (held name entries ≡ Some u) × Covers name lines u
+      → (u : Use) × (held name entries ≡ Some u) × CoversEvent name lines u
   pub named : (name : List ℕ) (u : Use) → held name entries ≡ Some u
       → (lines : List (List ℕ)) × (line : List ℕ) × Contains events lines × IsLineIn name lines line
 
@@ -56,10 +56,10 @@ pub record IsWidened {Y : Type 0} (name : List ℕ) (more : Use) (old new : List
   pub no_more : (other : List ℕ) (u : Use) → held other new ≡ Some u → (other ≡ name) ⊎ ((narrow : Use) × (held other old ≡ Some narrow))
 
 -- the local times of a line are in the table, if it names a zone, and a use that is about the whole VEVENT
-pub data AddsLine {Y : Type 0} (line : List ℕ) (whole : Use) (old new : List (String Y × Use)) : Type 0 where
-  names_none : line_param (codes "TZID") line ≡ None → new ≡ old → AddsLine line whole old new
+pub data AddsUsesOf {Y : Type 0} (line : List ℕ) (whole : Use) (old new : List (String Y × Use)) : Type 0 where
+  names_none : line_param (codes "TZID") line ≡ None → new ≡ old → AddsUsesOf line whole old new
   names_one : (name : List ℕ) (more : Use) → line_param (codes "TZID") line ≡ Some name → IsAsWide whole more
-      → ((local : ℤ) → SaysLocal line local → more.first ≤ℤ local) → IsWidened name more old new → AddsLine line whole old new
+      → ((local : ℤ) → SaysLocal line local → more.first ≤ℤ local) → IsWidened name more old new → AddsUsesOf line whole old new
 
 -- what a line says of local times that a VEVENT needs in each zone is not earlier than this: that of its UNTIL; and where days count, any that
 -- is shown at one of its times

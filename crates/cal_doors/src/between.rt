@@ -4,7 +4,7 @@ ghost use Rattle.std.specs.Prelude.{◌≡◌, true, IfOk};
 ghost use Rattle.profile.specs.doors.Adapting.{IsOverAt};
 ghost use Rattle.cal_doors.specs.Ends.{end_of};
 ghost use Rattle.cal_doors.specs.Runs.{run_of, runs_in};
-ghost use Rattle.cal_doors.specs.Between.{HasBegun, HasRunBegun, AreSameUpTo, IsSameEndUpTo};
+ghost use Rattle.cal_doors.specs.Between.{HasOnsetBy, HasRunBegun, AreSameUpTo, IsSameEndUpTo};
 
 use crate::end::End;
 use crate::places::latest_place;
@@ -16,7 +16,7 @@ const TIMES_END: i64 = 2_147_483_647;
 
 /// Whether an onset comes up to an instant. It isn't known where the onsets are counted.
 pub(crate) fn has_begun(runs: &[Run], instant: i64) -> bool
-    ensures { result ≡ true → HasBegun (runs_in runs.now) instant }
+    ensures { result ≡ true → HasOnsetBy (runs_in runs.now) instant }
 {
     let Some(place) = latest_place(runs, instant) else {
         return false;

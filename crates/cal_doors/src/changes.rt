@@ -4,7 +4,7 @@ ghost use Rattle.std.specs.Prelude.{◌≡◌, true, false, map, option_map, str
 ghost use Rattle.ical_tree.specs.Tree.{tree_of};
 ghost use Rattle.cal_doors.specs.Named.{AreNamed};
 ghost use Rattle.cal_doors.specs.Used.{AreUses};
-ghost use Rattle.cal_doors.specs.Adapted.{AreListed, listed_of, AreChanges, AreGoingOn, IsUseFor, IsNeeded, IsMeantZone};
+ghost use Rattle.cal_doors.specs.Adapted.{IsListOfZones, listed_of, AreChanges, AreGoingOn, IsUseFor, IsNeeded, IsMeantZone};
 ghost use Rattle.cal_doors.specs.Found.{general_of};
 ghost use Rattle.profile.specs.text.Trees.{Tree};
 ghost use Rattle.profile.specs.series.Zones as zones;
@@ -45,7 +45,7 @@ pub(crate) fn changes_of(
 ) -> Result<Option<Changes>, AllocError>
     requires uses { AreUses (tree_of zones.now.object.now) uses.now.entries }
     requires zones { AreNamed zones.now }
-    requires listed { AreListed listed }
+    requires listed { IsListOfZones listed }
     ensures { IfOk result (λ found. IfSome found (λ changes. AreChanges (listed_of listed.entry) (tree_of zones.now.object.now) uses.now.entries changes.entries)) }
 {
     let mut changes = IndexMap::new(alloc);
@@ -71,7 +71,7 @@ fn need_of(
     listed: Option<&NamedZones<'_, '_>>,
 ) -> Result<Need, AllocError>
     requires zones { AreNamed zones.now }
-    requires listed { AreListed listed }
+    requires listed { IsListOfZones listed }
     requires times { IsUseFor (tree_of zones.now.object.now) name.now times }
     ensures { IfOk result (IsNeeded (listed_of listed.entry) (tree_of zones.now.object.now) name.now) }
 {
@@ -113,7 +113,7 @@ fn meant(
     name: &str,
     listed: Option<&NamedZones<'_, '_>>,
 ) -> Result<Option<GeneralZone>, AllocError>
-    requires { AreListed listed }
+    requires { IsListOfZones listed }
     ensures { IfOk result (λ found. IfSome found (λ general. (object : Tree) → option_map (λ z. tree_of z.now) own.entry ≡ zone_named name.now object
         → IsMeantZone (listed_of listed.entry) object name.now (general_of general))) }
 {

@@ -6,7 +6,7 @@ ghost use Rattle.profile.specs.series.Zones.{Onset, IsOnset};
 ghost use Rattle.profile.specs.series.GeneralZones.{IsGeneralOnset};
 ghost use Rattle.cal_zones.specs.Onsets.{observance_of};
 ghost use Rattle.cal_doors.specs.Runs.{runs_in};
-ghost use Rattle.cal_doors.specs.Conditions.{Passes};
+ghost use Rattle.cal_doors.specs.Conditions.{PassesCondition};
 ghost use Rattle.cal_doors.specs.declared.end.End.TheVariants.{Never};
 
 use crate::condition::Condition;
@@ -14,7 +14,7 @@ use crate::run::Run;
 
 /// Whether a condition holds of each onset.
 pub(crate) fn all_hold(runs: &[Run], condition: &Condition) -> bool
-    ensures { result ≡ true → (x : Onset) → IsGeneralOnset (runs_in runs.now) x → Passes condition.now x }
+    ensures { result ≡ true → (x : Onset) → IsGeneralOnset (runs_in runs.now) x → PassesCondition condition.now x }
 {
     for run in runs {
         if !condition.holds(run) {

@@ -4,7 +4,7 @@ ghost use Rattle.std.specs.Prelude.{◌≡◌, IfOk, IfSome};
 ghost use Rattle.cal_zones.specs.Kinds.{zone_of};
 ghost use Rattle.profile.specs.doors.Adapting.{IsSameFor};
 ghost use Rattle.cal_doors.specs.Found.{general_of};
-ghost use Rattle.cal_doors.specs.Between.{GoesOn, LastsAsLong};
+ghost use Rattle.cal_doors.specs.Between.{GoesOnFrom, LastsAsLong};
 
 use crate::uses::Use;
 use crate::zone::GeneralZone;
@@ -70,7 +70,7 @@ fn as_long(
 
 /// The zone that does the same up to the end of the onsets before the end of times in 32 bits, in 2036 or later, and goes on. None where none is found.
 fn beyond(alloc: Global, general: &GeneralZone, from: i64) -> Result<Option<Choice>, AllocError>
-    ensures { IfOk result (λ found. IfSome found (λ c. GoesOn (general_of general.now) (zone_of c.zone) c.goes_on from)) }
+    ensures { IfOk result (λ found. IfSome found (λ c. GoesOnFrom (general_of general.now) (zone_of c.zone) c.goes_on from)) }
 {
     let to = general.last_onset();
     if to < TABLES_END {

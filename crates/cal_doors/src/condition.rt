@@ -63,11 +63,11 @@ impl Condition {
     ghost use Rattle.profile.specs.series.Zones.{Onset};
     ghost use Rattle.profile.specs.series.GeneralZones.{IsRunOnset};
     ghost use Rattle.cal_doors.specs.Runs.{run_of};
-    ghost use Rattle.cal_doors.specs.Conditions.{Passes};
+    ghost use Rattle.cal_doors.specs.Conditions.{PassesCondition};
 
     /// Whether it holds of each onset of a run.
     pub(crate) fn holds(&self, run: &Run) -> bool
-        ensures { result ≡ true → (x : Onset) → IsRunOnset (run_of run.now) x → Passes self.now x }
+        ensures { result ≡ true → (x : Onset) → IsRunOnset (run_of run.now) x → PassesCondition self.now x }
     {
         match self {
             Condition::Still(c) => is_still(run, c.instant, c.sets),

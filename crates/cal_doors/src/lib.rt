@@ -36,4 +36,5 @@ pub use parting::split;
 pub use readable::{Adapted, adapt};
 pub use returning::returned;
 pub use run::Run;
+pub use uses::is_time_line;
 pub use zone::GeneralZone;

@@ -11,7 +11,7 @@ ghost use Rattle.profile.specs.series.ZoneTexts.{is_part};
 ghost use Rattle.profile.specs.series.GeneralZoneTexts.{RunsFault};
 ghost use Rattle.cal_zones.specs.Shapes.{occurs_yearly};
 ghost use Rattle.cal_doors.specs.Runs.{runs_in};
-ghost use Rattle.cal_doors.specs.Reading.{AreTimes, AddsFirst, AddsYearly, AddsDays, AddsDate, AddsLine, AddsDates, AddsPart, DateFault, LineFault, DatesFault};
+ghost use Rattle.cal_doors.specs.Reading.{AreTimes, AddsFirst, AddsYearly, AddsDays, AddsDate, AddsDatesOf, AddsDates, AddsPart, DateFault, LineFault, DatesFault};
 
 use crate::rule::{EndingRule, PartRule, read_rule};
 use crate::run::Run;
@@ -125,7 +125,7 @@ fn add_dates(properties: &Properties<'_>, times: &Times, runs: &mut Vec<Run>) ->
 
 /// Adds a run for each local time of a line.
 fn add_line(line: Line<'_>, times: &Times, runs: &mut Vec<Run>) -> Result<(), Fault>
-    ensures adds { OnOk result (AddsLine times.now.from times.now.to (line_text line.entry) (runs_in runs.old.items) (runs_in runs.new.items)) }
+    ensures adds { OnOk result (AddsDatesOf times.now.from times.now.to (line_text line.entry) (runs_in runs.old.items) (runs_in runs.new.items)) }
     ensures fault { IfErr result (RefusesBy (LineFault (line_text line.entry))) }
 {
     if line.param("TZID").is_some() {

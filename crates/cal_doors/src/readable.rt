@@ -7,7 +7,7 @@ ghost use Rattle.profile.specs.text.Objects.{IsObject};
 ghost use Rattle.profile.specs.doors.Adapting.{IsAdapted, IsOf};
 ghost use Rattle.cal_doors.specs.Named.{AreNamed};
 ghost use Rattle.cal_doors.specs.Used.{AreUses};
-ghost use Rattle.cal_doors.specs.Adapted.{list_of, AreChanges, IsRight, AreGoingOn};
+ghost use Rattle.cal_doors.specs.Adapted.{list_of, AreChanges, IsRightlyAdapted, AreGoingOn};
 
 use crate::changes::{Changes, changes_of, names_going_on};
 use crate::named::NamedZones;
@@ -119,7 +119,7 @@ fn with_changes(
 ) -> Result<Option<Adapted>, AllocError>
     requires before { zones.now.object.now ≡ object.now }
     requires named { AreNamed zones.now }
-    ensures right { IfOk result (λ found. IfSome found (λ a. IsRight (tree_of object.now) uses.now.entries changes.now.entries a.octets.items)) }
+    ensures right { IfOk result (λ found. IfSome found (λ a. IsRightlyAdapted (tree_of object.now) uses.now.entries changes.now.entries a.octets.items)) }
     ensures going_on { IfOk result (λ found. IfSome found (λ a. AreGoingOn changes.now.entries (map string_bytes a.going_on.items))) }
 {
     let adapted = spliced(alloc, octets, object, changes)?;

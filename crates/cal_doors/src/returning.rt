@@ -4,7 +4,7 @@ ghost use Rattle.std.specs.Prelude.{IfOk, IfSome};
 ghost use Rattle.ical_tree.specs.Tree.{tree_of};
 ghost use Rattle.profile.specs.doors.Returning.{IsReturned};
 ghost use Rattle.cal_doors.specs.Adapted.{list_of};
-ghost use Rattle.cal_doors.specs.Told.{IsAnswered, IsReturnedBy};
+ghost use Rattle.cal_doors.specs.Told.{IsAnswerTold, IsReturnedBy};
 
 use crate::named::NamedZones;
 use crate::readable::{adapt, object_of, text_of};
@@ -62,7 +62,7 @@ fn answered(
     read: &Component,
     answer: &[u8],
 ) -> Result<Option<Vec<u8>>, AllocError>
-    ensures { IfOk result (λ found. IfSome found (λ given. IsAnswered (tree_of asked.now) (tree_of read.now) answer.now given.items)) }
+    ensures { IfOk result (λ found. IfSome found (λ given. IsAnswerTold (tree_of asked.now) (tree_of read.now) answer.now given.items)) }
 {
     let Some(text) = text_of(alloc, answer)? else {
         return Ok(None);

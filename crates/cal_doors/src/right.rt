@@ -9,7 +9,7 @@ ghost use Rattle.cal_zones.specs.Kinds.{zone_of};
 ghost use Rattle.cal_doors.specs.Used.{held};
 ghost use Rattle.ical_tree.specs.Tree.{tree_of};
 ghost use Rattle.cal_doors.specs.Named.{AreNamed};
-ghost use Rattle.cal_doors.specs.Adapted.{IsRight, MeansNow, AllMeanNow, others_among};
+ghost use Rattle.cal_doors.specs.Adapted.{IsRightlyAdapted, MeansNow, AllMeanNow, others_among};
 
 use crate::changes::Changes;
 use crate::named::NamedZones;
@@ -32,7 +32,7 @@ pub(crate) fn is_right(
 ) -> Result<bool, AllocError>
     requires before { zones.now.object.now ≡ before.now }
     requires named { AreNamed zones.now }
-    ensures { IfOk result (λ right. right ≡ true → IsRight (tree_of before.now) uses.now.entries changes.now.entries octets.now) }
+    ensures { IfOk result (λ right. right ≡ true → IsRightlyAdapted (tree_of before.now) uses.now.entries changes.now.entries octets.now) }
 {
     let Some(text) = text_of(alloc, octets)? else {
         return Ok(false);

@@ -11,7 +11,7 @@ ghost use Rattle.cal_rules.specs.Views.{until_of};
 ghost use Rattle.cal_zones.specs.Shapes.{rule_named};
 ghost use Rattle.cal_zones.specs.Read.{IsShapeFault};
 ghost use Rattle.cal_doors.specs.Ends.{end_of, IsNearEnd, IsNearInstant};
-ghost use Rattle.cal_doors.specs.Listed.{AreDaysOf, AreMany};
+ghost use Rattle.cal_doors.specs.Listed.{AreListedDays, AreMany};
 ghost use Rattle.cal_doors.specs.Reading.{SpellsRuleOf, SpellsNoRuleOf, IsLastFrom, AreDaysTo, AreNoDaysTo};
 
 use crate::end::{End, YearDay};
@@ -189,7 +189,7 @@ fn listed_days(
     last: Day,
 ) -> Result<Option<Vec<Day>>, AllocError>
     ensures { IfOk result (λ found. MatchOption found (AreMany rule (day_index first) (day_index last))
-        (λ days. AreDaysOf rule (day_index first) (day_index last) (map day_index days.items))) }
+        (λ days. AreListedDays rule (day_index first) (day_index last) (map day_index days.items))) }
 {
     let rule = Rule::from_day(rule, first, last);
     let mut days = Vec::new(alloc);

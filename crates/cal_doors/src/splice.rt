@@ -3,8 +3,7 @@
 ghost use Rattle.std.specs.Prelude.{◌<◌, length, IfOk, IfSome};
 
 use crate::changes::Changes;
-use crate::named::zone_name;
-use cal_zones::Zone;
+use cal_zones::{Zone, zone_name};
 use ical_lines::split_line;
 use ical_tree::Component;
 use std::alloc::{AllocError, Global};

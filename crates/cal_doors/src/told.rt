@@ -11,7 +11,7 @@ ghost use Rattle.profile.specs.events.Properties.{time_kind};
 ghost use Rattle.profile.specs.doors.Uses.{is_time_line, IsLineIn};
 ghost use Rattle.profile.specs.doors.Returning.{TellsSame};
 ghost use Rattle.cal_doors.specs.Named.{AreNamed};
-ghost use Rattle.cal_doors.specs.Told.{AreWords, BeginsWithEvent, events_among, HasItsZone, IsTold};
+ghost use Rattle.cal_doors.specs.Told.{AreWordsOf, BeginsWithEvent, events_among, HasItsZone, TellsAnswer};
 
 use crate::named::NamedZones;
 use crate::readable::{object_of, text_of};
@@ -32,9 +32,9 @@ pub(crate) fn is_told(
 ) -> Result<bool, AllocError>
     requires asked { AreNamed asked.now }
     requires read { AreNamed read.now }
-    requires words { AreWords (tree_of read.now.object.now) (tree_of told.now) words.now }
+    requires words { AreWordsOf (tree_of read.now.object.now) (tree_of told.now) words.now }
     ensures { IfOk result (λ right. right ≡ true
-        → IsTold (tree_of asked.now.object.now) (tree_of read.now.object.now) (tree_of told.now) octets.now) }
+        → TellsAnswer (tree_of asked.now.object.now) (tree_of read.now.object.now) (tree_of told.now) octets.now) }
 {
     let Some(text) = text_of(alloc, octets)? else {
         return Ok(false);
@@ -52,7 +52,7 @@ pub(crate) fn is_told(
 
 /// Whether the VEVENTs among components are told by those among others.
 fn are_told(told: &[Component], given: &[Component], words: &Words<'_>) -> bool
-    ensures { result ≡ true → (read answer : Tree) → AreWords read answer words.now
+    ensures { result ≡ true → (read answer : Tree) → AreWordsOf read answer words.now
         → AllZip (AllZip (TellsSame read answer)) (events_among told.now) (events_among given.now) }
 {
     let mut left = given;
@@ -89,7 +89,7 @@ pub(crate) fn from_event<'s, 'a>(components: &'s [Component<'a>]) -> &'s [Compon
 /// Whether lines are told by others, one by one.
 #[tactic(auto, using(crate::proofs::ToldWords::zip_end))]
 fn are_told_lines(lines: OwnLines<'_>, others: OwnLines<'_>, words: &Words<'_>) -> bool
-    ensures { result ≡ true → (read answer : Tree) → AreWords read answer words.now
+    ensures { result ≡ true → (read answer : Tree) → AreWordsOf read answer words.now
         → AllZip (TellsSame read answer) (lines_left lines.entry) (lines_left others.entry) }
 {
     let mut others = others;
@@ -106,7 +106,7 @@ fn are_told_lines(lines: OwnLines<'_>, others: OwnLines<'_>, words: &Words<'_>) 
 
 /// Whether a line is told by another.
 fn is_told_line(line: Line<'_>, other: Line<'_>, words: &Words<'_>) -> bool
-    ensures { result ≡ true → (read answer : Tree) → AreWords read answer words.now → TellsSame read answer (line_text line.entry) (line_text other.entry) }
+    ensures { result ≡ true → (read answer : Tree) → AreWordsOf read answer words.now → TellsSame read answer (line_text line.entry) (line_text other.entry) }
 {
     is_kept(line, other) || is_its_instance(line, other, words) || is_in_zone(line, other, words)
 }
@@ -121,7 +121,7 @@ fn is_kept(line: Line<'_>, other: Line<'_>) -> bool
 
 /// Whether a line names an instance, and the other one is the line of the object for it.
 fn is_its_instance(line: Line<'_>, other: Line<'_>, words: &Words<'_>) -> bool
-    ensures { result ≡ true → (read answer : Tree) → AreWords read answer words.now → TellsSame read answer (line_text line.entry) (line_text other.entry) }
+    ensures { result ≡ true → (read answer : Tree) → AreWordsOf read answer words.now → TellsSame read answer (line_text line.entry) (line_text other.entry) }
 {
     match words.instance(line) {
         Some(text) => text == other.text(),
@@ -131,7 +131,7 @@ fn is_its_instance(line: Line<'_>, other: Line<'_>, words: &Words<'_>) -> bool
 
 /// Whether two lines say the same times, in a zone that is the same under both names.
 fn is_in_zone(line: Line<'_>, other: Line<'_>, words: &Words<'_>) -> bool
-    ensures { result ≡ true → (read answer : Tree) → AreWords read answer words.now → TellsSame read answer (line_text line.entry) (line_text other.entry) }
+    ensures { result ≡ true → (read answer : Tree) → AreWordsOf read answer words.now → TellsSame read answer (line_text line.entry) (line_text other.entry) }
 {
     if !is_time_line(line) || !has_same_parts(line, other) {
         return false;

@@ -10,7 +10,7 @@ ghost use Rattle.profile.specs.series.Rules as rules;
 ghost use Rattle.profile.specs.series.Rules.{UntilLocal};
 ghost use Rattle.profile.specs.series.RuleTexts.{SpellsRule};
 ghost use Rattle.cal_rules.specs.Views.{until_of};
-ghost use Rattle.cal_doors.specs.Used.{AreUses, AreUsesWith, AddsLine, AllBeginBy, HasNoDays, LineBeginsBy, LineEndsBy, IsAsWide, IsWidened, EndsEarlier};
+ghost use Rattle.cal_doors.specs.Used.{AreUses, AreUsesWith, AddsUsesOf, AllBeginBy, HasNoDays, LineBeginsBy, LineEndsBy, IsAsWide, IsWidened, EndsEarlier};
 ghost use Rattle.cal_doors.specs.declared.uses.Use.{Use};
 
 use cal_rules::{RuleText, Until};
@@ -73,7 +73,7 @@ fn add_event(alloc: Global, event: &Component, uses: &mut Uses) -> Result<bool, 
 
 /// Adds the zone that a line of times names, if it names one; `whole` is about all times of its VEVENT. False where a text of it is no local time.
 fn add_line(alloc: Global, line: Line<'_>, whole: Use, uses: &mut Uses) -> Result<bool, AllocError>
-    ensures { IfOk result (λ all. all ≡ true → AddsLine (line_text line.entry) whole uses.old.entries uses.new.entries) }
+    ensures { IfOk result (λ all. all ≡ true → AddsUsesOf (line_text line.entry) whole uses.old.entries uses.new.entries) }
 {
     let Some(name) = line.param("TZID") else {
         return Ok(true);
@@ -347,8 +347,8 @@ fn last_local(line: Line<'_>) -> i64
     last
 }
 
-/// Whether the values of a line are times.
-pub(crate) fn is_time_line(line: Line<'_>) -> bool
+/// Whether the values of a line are times: whether it is a DTSTART, DTEND, RECURRENCE-ID, RDATE or EXDATE (RFC 5545 3.8.2, 3.8.4.4, 3.8.5).
+pub fn is_time_line(line: Line<'_>) -> bool
     ensures { result ≡ is_time_line (line_text line.entry) }
 {
     line.is_named("DTSTART")

@@ -9,7 +9,7 @@ ghost use Rattle.profile.specs.events.ZonedTimes.{SaysInstant};
 ghost use Rattle.profile.specs.series.ZoneTexts.{SaysZone};
 ghost use Rattle.cal_zones.specs.Kinds.{zone_of};
 ghost use Rattle.cal_doors.specs.Named.{AreNamed};
-ghost use Rattle.cal_doors.specs.Told.{is_event, AreZonesOf, AreInstancesOf, AreWords, NamesSame, AreSameZone};
+ghost use Rattle.cal_doors.specs.Told.{is_event, AreZonesOf, AreAllInstancesOf, AreWordsOf, NamesSame, AreSameZone};
 
 use crate::named::NamedZones;
 use crate::uses::is_time_line;
@@ -48,7 +48,7 @@ impl<'r> Words<'r> {
         read: &'r Component<'_>,
         told: &Component,
     ) -> Result<Words<'r>, AllocError>
-        ensures { IfOk result (λ words. AreWords (tree_of read.now) (tree_of told.now) words) }
+        ensures { IfOk result (λ words. AreWordsOf (tree_of read.now) (tree_of told.now) words) }
     {
         let zones = zones_of(alloc, read)?;
         let instances = instances_of(alloc, read, &zones)?;
@@ -62,7 +62,7 @@ impl<'r> Words<'r> {
 
     /// The line of the object for the instance that a line of the answer names. None where it names none, or one that the object doesn't.
     pub(crate) fn instance(&self, line: Line<'_>) -> Option<&'r str>
-        ensures { IfSome result (λ text. (read answer : Tree) → AreWords read answer self.now → NamesSame read answer (line_text line.entry) text.now) }
+        ensures { IfSome result (λ text. (read answer : Tree) → AreWordsOf read answer self.now → NamesSame read answer (line_text line.entry) text.now) }
     {
         let instant = named_instant(line, &self.told)?;
         for instance in self.instances.iter() {
@@ -86,7 +86,7 @@ impl<'r> Words<'r> {
 
     /// Whether a name in the answer and one in the object mean the same zone.
     pub(crate) fn is_same_zone(&self, name: &str, new: &str) -> bool
-        ensures { result ≡ true → (read answer : Tree) → AreWords read answer self.now → AreSameZone read answer name.now new.now }
+        ensures { result ≡ true → (read answer : Tree) → AreWordsOf read answer self.now → AreSameZone read answer name.now new.now }
     {
         let Some(zone) = self.told.get(name) else {
             return false;
@@ -174,7 +174,7 @@ fn instances_of<'r>(
     object: &'r Component<'_>,
     zones: &Zones,
 ) -> Result<Vec<Instance<'r>>, AllocError>
-    ensures { IfOk result (λ instances. AreZonesOf (tree_of object.now) zones.now.entries → AreInstancesOf (tree_of object.now) instances.items) }
+    ensures { IfOk result (λ instances. AreZonesOf (tree_of object.now) zones.now.entries → AreAllInstancesOf (tree_of object.now) instances.items) }
 {
     let mut instances = Vec::new(alloc);
     for child in object.children() {
@@ -191,7 +191,7 @@ fn add_instances<'r>(
 ) -> Result<(), AllocError>
     ensures { OnOk result ((object : Tree) → AreZonesOf object zones.now.entries
         → (is_event component.now ≡ true → Contains (vevents object) (component_lines component.now))
-        → AreInstancesOf object instances.old.items → AreInstancesOf object instances.new.items) }
+        → AreAllInstancesOf object instances.old.items → AreAllInstancesOf object instances.new.items) }
 {
     if !component.is_named("VEVENT") {
         return Ok(());
@@ -209,7 +209,7 @@ fn add_instance<'r>(
     instances: &mut Vec<Instance<'r>>,
 ) -> Result<(), AllocError>
     ensures { OnOk result ((object : Tree) (lines : List (List ℕ)) → AreZonesOf object zones.now.entries → Contains (vevents object) lines
-        → Contains lines (line_text line.entry) → AreInstancesOf object instances.old.items → AreInstancesOf object instances.new.items) }
+        → Contains lines (line_text line.entry) → AreAllInstancesOf object instances.old.items → AreAllInstancesOf object instances.new.items) }
 {
     let Some(instant) = named_instant(line, zones) else {
         return Ok(());

@@ -21,4 +21,3 @@ pub mod texts_lemmas
 pub mod when_lemmas
 pub mod whole_lemmas
 pub mod with_zone_lemmas
-pub mod zones_lemmas

@@ -7,6 +7,7 @@ ghost use Rattle.profile.specs.text.Values.{IsClockSeconds};
 ghost use Rattle.profile.specs.series.Zones.{IsOneMeaning, IsNearEpoch, Means, local_time};
 ghost use Rattle.profile.specs.events.ZonedTimes.{clock_of};
 ghost use Rattle.profile.specs.checker.Instances.{Instance as SaidInstance, horizon};
+ghost use Rattle.profile.specs.rooms.Messages.{is_in_dates};
 ghost use Rattle.profile.specs.events.Starts.{IsGiven, IsStart, IsInstance, EndsAt, key_at};
 ghost use Rattle.cal_events.specs.Clocks.{IsAscending, HasGoodClock};
 ghost use Rattle.cal_events.specs.Calendar.{key_of, instance_of};
@@ -157,10 +158,18 @@ fn is_wanted(event: &Event, after: Bound, instant: i64) -> bool
 pub(crate) fn is_start(instant: i64, hidden: &Instants) -> bool
     ensures { IsTrue result ↔ (IsInEventDates instant × (Contains hidden.now instant → ⊥)) }
 {
-    if instant < FIRST_SECOND || instant >= HORIZON {
+    if !is_in_event_dates(instant) {
         return false;
     }
     !hidden.has(instant)
+}
+
+/// Whether an instant is in the dates that an event may name: in UTC from 1969-12-31 on, and before 10000-01-01T00:00:00Z.
+pub fn is_in_event_dates(instant: i64) -> bool
+    ensures is { result ≡ is_in_dates instant }
+    ensures in_dates { IsTrue result ↔ IsInEventDates instant }
+{
+    instant < HORIZON && instant >= FIRST_SECOND
 }
 
 /// The first start after a bound that RDATE adds.

@@ -39,7 +39,7 @@ pub use event::{Event, one_instance, one_meeting};
 pub use event_rule::as_end;
 pub use event_times::{EventTimes, FIRST_SECOND};
 pub use instance::{HORIZON, Instance, InstanceKey, OwnedKey, Single};
-pub use instances::Instances;
+pub use instances::{Instances, is_in_event_dates};
 pub use meeting_components::read_meeting;
 pub use method::Method;
 pub use occurrences::WrittenTimes;

@@ -1,19 +1,15 @@
 //! The VTIMEZONEs of an object by their names, each read once for all lines that name it (RFC 5545 3.2.19, 3.6.5, 3.8.3.1).
 //! What is wrong with one is reported where a line names it: a VTIMEZONE that no line names refuses nothing.
 
-ghost use Rattle.std.specs.Prelude.{◌≡◌, ◌∷◌, ◌++◌, [], List, find, option_map, string_bytes, IfOk, IfErr, OnOk};
-ghost use Rattle.ical_lines.specs.Text.{line_text};
-ghost use Rattle.ical_tree.specs.Tree.{component_lines};
+ghost use Rattle.std.specs.Prelude.{◌≡◌, ◌∷◌, ◌++◌, [], List, IfOk, IfErr, OnOk};
 ghost use Rattle.ical_tree.specs.declared.component.Component.{Component};
-ghost use Rattle.profile.specs.events.Properties.{is_of};
 ghost use Rattle.profile.specs.events.ZonedTimes.{zone_named, SaysZoneOf, NamedFault};
 ghost use Rattle.cal_zones.specs.Kinds.{zone_of};
-ghost use Rattle.cal_events.specs.Zones.{AreZonesAmong, IsZoneRead, zone_name_said, object_of, AreRead};
+ghost use Rattle.cal_events.specs.Zones.{AreZonesAmong, IsZoneRead, object_of, AreRead};
 
-use cal_zones::Zone;
-use ical_lines::{Fault, Line, Refusal};
+use cal_zones::{Zone, zone_name};
+use ical_lines::{Fault, Refusal};
 use ical_tree::Component;
-use ical_values::Text;
 use indexmap::IndexMap;
 use std::alloc::{AllocError, Global};
 
@@ -74,20 +70,6 @@ fn add_zone(alloc: Global, by_name: &mut ByName, component: &Component) -> Resul
     Ok(())
 }
 
-/// The name of a VTIMEZONE: its first TZID, a text with escapes. None for another component.
-fn zone_name(alloc: Global, component: &Component) -> Result<Option<String>, AllocError>
-    ensures { IfOk result (λ name. option_map string_bytes name ≡ zone_name_said component.now) }
-{
-    if !component.is_named("VTIMEZONE") {
-        return Ok(None);
-    }
-    let Some(line) = first_named(component, "TZID") else {
-        return Ok(None);
-    };
-    let name = Text::read(alloc, line.value())?;
-    Ok(Some(String::from_str(alloc, name.as_str())?))
-}
-
 /// What a VTIMEZONE says, or what is wrong with it.
 fn read_zone(alloc: Global, component: &Component) -> Result<Result<Zone, Refusal>, AllocError>
     ensures { IfOk result (IsZoneRead component.now) }
@@ -97,16 +79,4 @@ fn read_zone(alloc: Global, component: &Component) -> Result<Result<Zone, Refusa
         Err(Fault::Refused(refusal)) => Ok(Err(refusal)),
         Err(Fault::Memory) => Err(AllocError),
     }
-}
-
-/// The first line of a property.
-fn first_named<'a>(component: &'a Component, name: &str) -> Option<Line<'a>>
-    ensures { option_map line_text result ≡ find (is_of name.now) (component_lines component.now) }
-{
-    for line in component.lines() {
-        if line.is_named(name) {
-            return Some(line);
-        }
-    }
-    None
 }

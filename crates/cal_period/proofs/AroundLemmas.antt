@@ -15,7 +15,7 @@ use Rattle.std.proofs.lemmas.List.Kept.{AllPairs-from_increasing}
 use Rattle.profile.specs.checker.Instances.{IsWithin}
 use Rattle.profile.specs.series.Repeating.{ArcsMeet, IsCongruent}
 use Rattle.profile.proofs.Repeats.{residues_apart}
-use Rattle.cal_period.specs.Around.{AreAround, IsOver, MeetsNone, AreNeighbours, AreApart, IsApart, AreStepsOver, IsLastOver}
+use Rattle.cal_period.specs.Around.{AreAround, IsOver, MeetsNoArc, AreBesideResidue, AreApart, IsApart, AreStepsOver, IsLastOver}
 
 int_eq_by : {a b : ℤ} → a ≤ℤ b → b ≤ℤ a → a ≡ b
 int_eq_by {a} {b} l m = omega (arith, ints, l, m)
@@ -155,7 +155,7 @@ tells_meet m r s w v false low small some any told = ((λ e. by (over_or_not m r
 -- ---- one arc and many: its neighbours count
 
 module _ (m r : ℕ) (w : ℤ) (others : List ℕ) (v : ℤ) (low : r < m) (around : AreAround m others) where
-  pub neighbours_settle : (before next : ℕ) → AreNeighbours r others before next → (ArcsMeet m r w before v → ⊥) → (ArcsMeet m r w next v → ⊥) → MeetsNone m r w others v
+  pub neighbours_settle : (before next : ℕ) → AreBesideResidue r others before next → (ArcsMeet m r w before v → ⊥) → (ArcsMeet m r w next v → ⊥) → MeetsNoArc m r w others v
   neighbours_settle before next near first second s has meet = over_apart m r s w v low (around.below s has) over (behind (cases_lt s r)) meet
     where
       some : (pos 0 <ℤ w) × (pos 0 <ℤ v)
@@ -189,8 +189,8 @@ module _ (m r : ℕ) (w : ℤ) (others : List ℕ) (v : ℤ) (low : r < m) (arou
         ];
       }
 
-  pub tells_none : (before next : ℕ) (a b : Bool) → AreNeighbours r others before next → IsTrue a ↔ ArcsMeet m r w before v → IsTrue b ↔ ArcsMeet m r w next v → a ≡ false
-      → IsTrue (not b) ↔ MeetsNone m r w others v
+  pub tells_none : (before next : ℕ) (a b : Bool) → AreBesideResidue r others before next → IsTrue a ↔ ArcsMeet m r w before v → IsTrue b ↔ ArcsMeet m r w next v → a ≡ false
+      → IsTrue (not b) ↔ MeetsNoArc m r w others v
   tells_none before next a true near first second apart = ((λ e. absurd (false≢true e)), λ none. absurd (none next near.has_next (second.0 refl)))
   tells_none before next a false near first second apart =
       ((λ e. neighbours_settle before next near (λ met. false≢true (sym apart ∙ first.1 met)) (λ met. false≢true (second.1 met))), λ none. refl)
@@ -231,7 +231,7 @@ module _ (xs : List ℕ) (up : IsStrictlyIncreasing xs) where
     high : (k : ℕ) → place ≤ k → k < length xs → r ≤ get_or xs k 0
     high k most w = let e = point.1 k 0 most w in grind (arith, nat_tests)
 
-    pub neighbours_found : AreNeighbours r xs before first
+    pub neighbours_found : AreBesideResidue r xs before first
     neighbours_found = record {
       has_before = Contains-get_or xs (last - 1) 0 (omega (arith, last_in.0, last_in.1));
       has_next = Contains-get_or xs next 0 next_in;
@@ -375,18 +375,18 @@ module _ (m : ℕ) (xs : List ℕ) (w : ℤ) (around : AreAround m xs) where
 -- ---- two lists
 
 module _ (m : ℕ) (first : List ℕ) (w : ℤ) (second : List ℕ) (v : ℤ) where
-  pub one_more_none : (i : ℕ) → ((k : ℕ) → k < i → MeetsNone m (slice_index first k) w second v) → MeetsNone m (slice_index first i) w second v
-      → (k : ℕ) → k < i + 1 → MeetsNone m (slice_index first k) w second v
+  pub one_more_none : (i : ℕ) → ((k : ℕ) → k < i → MeetsNoArc m (slice_index first k) w second v) → MeetsNoArc m (slice_index first i) w second v
+      → (k : ℕ) → k < i + 1 → MeetsNoArc m (slice_index first k) w second v
   one_more_none i before here k less = elim (cases_lt k i) [
     | inl below ↦ before k below
     | inr above ↦ let e : k ≡ i = omega (arith, less, above) in rw e here
   ]
 
-  pub all_none : ((k : ℕ) → k < length first → MeetsNone m (slice_index first k) w second v) → AreApart m first w second v
+  pub all_none : ((k : ℕ) → k < length first → MeetsNoArc m (slice_index first k) w second v) → AreApart m first w second v
   all_none none r s has other meet =
       none has.0 has.1 s other (rw (get_or_default first has.0 0 r has.1 ∙ has.2) meet)
 
-  pub at_none : (i : ℕ) → i < length first → AreApart m first w second v → MeetsNone m (slice_index first i) w second v
+  pub at_none : (i : ℕ) → i < length first → AreApart m first w second v → MeetsNoArc m (slice_index first i) w second v
   at_none i less apart s = apart (slice_index first i) s (Contains-get_or first i 0 less)
 
 -- ---- what lasts so long
@@ -414,7 +414,7 @@ saturated_meet m q r w long low small short meet = by (saturates long some.0)
     ])
 
 pub reaches_none : (m q : ℕ) (residues : List ℕ) (w start end : ℤ) → m < 2 ^ 40 → AreAround m residues → q < m → IsCongruent m start (pos q)
-    → MeetsNone m q (saturate_signed w64 (end -ℤ start)) residues w
+    → MeetsNoArc m q (saturate_signed w64 (end -ℤ start)) residues w
     → (x y t : ℤ) (r : ℕ) → Contains residues r → IsCongruent m x (pos r) → y ≤ℤ (x +ℤ w) → IsWithin x y t → IsWithin start end t → ⊥
 reaches_none m q residues w start end short around low same none x y t r has at lasts inside during =
     residues_apart (λ a b. (a ≡ start) × (b ≡ end)) (λ a b. (a ≡ x) × (b ≡ y)) m (end -ℤ start) w (λ n. n ≡ q) (λ n. n ≡ r)

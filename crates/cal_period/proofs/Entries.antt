@@ -22,7 +22,7 @@ use Rattle.cal_events.proofs.shared_lemmas.DraftKeys.{some_there}
 use Rattle.cal_events.proofs.shared_lemmas.OwnSingles.{at_start}
 use Rattle.cal_events.proofs.shared_lemmas.SeriesLemmas.{alone_said}
 use Rattle.cal_period.specs.Walks.{AreAllLeft, AreLeftFrom}
-use Rattle.cal_period.specs.Onward.{IsFirstStart, HasBegun, MeetFrom, IsEntry}
+use Rattle.cal_period.specs.Onward.{IsFirstStart, HasBegun, MeetFrom, IsEntryBefore}
 use Rattle.cal_period.proofs.Going.{at_first, not_less}
 
 -- ---- how long instances last
@@ -82,14 +82,14 @@ not_less_saturated (pos n) h = omega (arith, ints, h)
 not_less_saturated (negsuc n) h = elim (cases_lt n 9_223_372_036_854_775_808) [ inl below ↦ omega (arith, ints, below) | inr from ↦ omega (arith, ints, from) ]
 
 pub entry_is : (series : SaidEvent) (by n entry : ℤ) → AreKnownByStart series → negsuc 9_223_372_036_854_775_807 ≤ℤ by → pos 0 ≤ℤ n → ((b : SaidInstance) → IsInstance series b → b.end ≤ℤ (b.start +ℤ n))
-    → entry ≡ saturate_signed w64 (by -ℤ n) → IsEntry series by entry
+    → entry ≡ saturate_signed w64 (by -ℤ n) → IsEntryBefore series by entry
 entry_is series by n entry known fits length last is =
     elim (saturated (by -ℤ n)) [
       | inl at ↦ (omega (arith, ints, at, is, length), λ b h l. let e = last b h in omega (arith, ints, at, is, l, e))
       | inr at ↦ (omega (arith, ints, at, is, fits), λ b h l. let d = (known.dates b h).0 in absurd (omega (arith, ints, at, is, l, d)))
     ]
 
-pub entered : (series : SaidEvent) (by entry : ℤ) (left : Instances) → by <ℤ horizon → IsEntry series by entry → ((b : SaidInstance) → IsLeft left b ↔ (IsInstance series b × (entry ≤ℤ b.start))) → AreLeftFrom series by entry left
+pub entered : (series : SaidEvent) (by entry : ℤ) (left : Instances) → by <ℤ horizon → IsEntryBefore series by entry → ((b : SaidInstance) → IsLeft left b ↔ (IsInstance series b × (entry ≤ℤ b.start))) → AreLeftFrom series by entry left
 entered series by entry left before is others = record { early = omega (arith, ints, before, is.0); before = is.1; others = others }
 
 -- ---- the first starts

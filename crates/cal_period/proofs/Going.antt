@@ -15,7 +15,7 @@ use Rattle.cal_events.specs.declared.instance.Instance.{Instance}
 use Rattle.cal_events.specs.declared.instances.Bound.{Bound}
 use Rattle.cal_events.specs.declared.instances.Instances.{Instances}
 use Rattle.cal_events.proofs.shared_lemmas.WholeLists.{order, after_later}
-use Rattle.cal_period.specs.Walks.{walk_place, AreAllLeft, AreLeftFrom, IsAhead, IsBehind, IsLastBehind, IsLastSince, BeginsWalk, EntersWalk, GoesPast, GoesOn, EndsLater}
+use Rattle.cal_period.specs.Walks.{walk_place, AreAllLeft, AreLeftFrom, IsAhead, IsBehind, IsLastBehind, IsLastSince, BeginsWalk, EntersWalk, GoesPast, WalksOn, EndsLater}
 use Rattle.cal_period.specs.declared.walk.Walk.{Walk}
 
 -- one that comes earlier starts earlier
@@ -166,7 +166,7 @@ module _ (series : Event) (old new : Instances) (walk : Walk) (ahead : IsAhead s
   }
 
   pub gone_on : (by : ℤ) → IsLastSince series by here walk.last → (later : Instance) → EndsLater walk.last next later
-      → GoesOn series by next walk new (record { next = after; last = Some later })
+      → WalksOn series by next walk new (record { next = after; last = Some later })
   gone_on by last later ends = record {
     tail = record {
       ahead = there.ahead;

@@ -14,7 +14,7 @@ use Rattle.profile.specs.series.Zones.{Zone, Onset, IsZoneOnset, local_time}
 use Rattle.profile.specs.events.Events.{Event}
 use Rattle.profile.specs.events.Spans.{has_end, IsRulePeriod, IsZonePeriod, IsPastOnsets, IsSaidSeries, IsPastAll, IsPeriodOf, IsLeastPeriodOf, HasNoPeriodOf}
 use Rattle.cal_zones.specs.Repeats.{ZoneRepeats, later_by}
-use Rattle.cal_period.specs.Recurring.{HasNone, AreMultiples, DoesRecur, HasNoCommon, IsLeastCommon}
+use Rattle.cal_period.specs.Recurring.{AreAllPastMost, AreMultiples, DoesRecur, HasNoCommon, IsLeastCommon}
 use Rattle.cal_period.specs.Members.{second_year, IsDayOfRule, IsListedDay, IsRuleRegular, IsRuleFrom, IsOnsetOf, Lasts, IsStartOf, IsListedStart, ComesAgainFrom}
 use Rattle.cal_period.proofs.Multiples.{series_are, ended_are, endless_are, endless_none}
 use Rattle.cal_rules.specs.LastDays.{NoDayTo, IsLastDayTo}
@@ -77,15 +77,15 @@ rule_count r e = (no_ends r e).0
 
 pub rule_periods : (r : Rule) (found : Option ℕ) → ((r.count ≢ None) ⊎ (r.until ≢ None) → found ≡ Some 1)
     → (r.count ≡ None → r.until ≡ None → MatchOption found (HasNoPeriod r.pattern) (IsPeriod r.pattern)) → IfSome found (λ days. (0 < days) × (days ≤ most_period))
-    → MatchOption found (HasNone (IsRulePeriod r)) (AreMultiples (IsRulePeriod r))
+    → MatchOption found (AreAllPastMost (IsRulePeriod r)) (AreMultiples (IsRulePeriod r))
 rule_periods r found ended endless few =
     elim (cases_Bool (has_end r)) [
-      | inl e ↦ subst (λ o. MatchOption o (HasNone (IsRulePeriod r)) (AreMultiples (IsRulePeriod r))) (sym (ended (ends r e))) (ended_are r e)
+      | inl e ↦ subst (λ o. MatchOption o (AreAllPastMost (IsRulePeriod r)) (AreMultiples (IsRulePeriod r))) (sym (ended (ends r e))) (ended_are r e)
       | inr e ↦ by e found (endless (no_ends r e).0 (no_ends r e).1) few
     ]
   where
     by : has_end r ≡ false → (o : Option ℕ) → MatchOption o (HasNoPeriod r.pattern) (IsPeriod r.pattern) → IfSome o (λ days. (0 < days) × (days ≤ most_period))
-        → MatchOption o (HasNone (IsRulePeriod r)) (AreMultiples (IsRulePeriod r))
+        → MatchOption o (AreAllPastMost (IsRulePeriod r)) (AreMultiples (IsRulePeriod r))
     by e None none few = endless_none r e none
     by e (Some days) is few = endless_are r days e few.1 is
 
@@ -117,7 +117,7 @@ series_recurs a said earlier later = record {
       (after.0, after.1, after.2));
 }
 
-pub series_periods : (a : Event) (found : Option ℕ) → MatchOption found (HasNoPeriodOf a) (IsLeastPeriodOf a) → MatchOption found (HasNone (IsPeriodOf a)) (AreMultiples (IsPeriodOf a))
+pub series_periods : (a : Event) (found : Option ℕ) → MatchOption found (HasNoPeriodOf a) (IsLeastPeriodOf a) → MatchOption found (AreAllPastMost (IsPeriodOf a)) (AreMultiples (IsPeriodOf a))
 series_periods a None none = none
 series_periods a (Some days) is = series_are a days is
 
@@ -215,8 +215,8 @@ common These Those d e (Some days) x y is few = record {
   least = λ n some p q. is.least n some ((x.multiples n).0 p) ((y.multiples n).0 q);
 }
 
-pub none_first : (These Those : ℕ → Type 0) → HasNone These → HasNoCommon These Those
+pub none_first : (These Those : ℕ → Type 0) → AreAllPastMost These → HasNoCommon These Those
 none_first These Those none n some p q = none n some p
 
-pub none_second : (These Those : ℕ → Type 0) → HasNone Those → HasNoCommon These Those
+pub none_second : (These Those : ℕ → Type 0) → AreAllPastMost Those → HasNoCommon These Those
 none_second These Those none n some p q = none n some q

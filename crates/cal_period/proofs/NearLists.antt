@@ -21,7 +21,7 @@ use Rattle.cal_events.specs.declared.sweep.Span.{Span}
 use Rattle.cal_period.specs.Onsets.{IsReach, AreClearNear, IsHalfDayBefore}
 use Rattle.cal_period.specs.Onward.{IsFirstStart}
 use Rattle.cal_period.specs.NearSpans.{near_onset, HoldsNear, HoldsAll, ArePassedBy, IsLongBefore}
-use Rattle.cal_period.specs.Walks.{walk_place, IsNoneBelow, IsBehind, Tail, EntersWalk, GoesOn}
+use Rattle.cal_period.specs.Walks.{walk_place, IsNoneBelow, IsBehind, Tail, EntersWalk, WalksOn}
 use Rattle.cal_period.specs.declared.near.NearSpan.{NearSpan}
 use Rattle.cal_period.specs.declared.walk.Walk.{Walk}
 use Rattle.cal_period.proofs.Entries.{saturated}
@@ -43,7 +43,7 @@ taken_first a onset entry old left walk m = record {
   taken = λ x h late. let over = m.over x h in absurd (omega (arith, ints, over, late));
 }
 
-pub taken_past : (a : Event) (onset : ℤ) (old near : List NearSpan) (left rest : Instances) (walk new : Walk) (next : Instance) (span : Span) → AreTaken a onset old near left walk → GoesOn a onset next walk rest new
+pub taken_past : (a : Event) (onset : ℤ) (old near : List NearSpan) (left rest : Instances) (walk new : Walk) (next : Instance) (span : Span) → AreTaken a onset old near left walk → WalksOn a onset next walk rest new
     → span.start ≡ next.start → span.end ≡ next.end → AreTaken a onset old (near ++ record { onset = onset; span = span } ∷ []) rest new
 taken_past a onset old near left rest walk new next span at g start end = record {
   tail = g.tail;

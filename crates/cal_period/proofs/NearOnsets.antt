@@ -24,7 +24,7 @@ use Rattle.cal_period.specs.Clear.{ShareStart, ArePair, AreTwo, AreClearBelow, I
 use Rattle.cal_period.specs.LocalResidues.{AreLocallyApart, IsLocallyApart}
 use Rattle.cal_period.specs.Onsets.{AreClearSince, IsClearSince, AreClearNear, IsClearNear, IsHalfDayBefore}
 use Rattle.cal_period.specs.Onward.{IsFirstStart, IsSharedBelow, IsSharedAloneBelow}
-use Rattle.cal_period.specs.Walks.{walk_place, IsNoneBelow, IsBehind, Tail, EntersWalk, GoesOn, MeetsInstance, MeetsNone}
+use Rattle.cal_period.specs.Walks.{walk_place, IsNoneBelow, IsBehind, Tail, EntersWalk, WalksOn, MeetsInstance, MeetsNone}
 use Rattle.cal_period.specs.declared.walk.Walk.{Walk}
 use Rattle.cal_period.proofs.Entries.{saturated}
 use Rattle.cal_period.proofs.OnsetTheorem.{IsRuledIn, clear_by_onsets, alone_by_onsets}
@@ -121,7 +121,7 @@ module _ (a b : Event) (from : ℤ) (left : Instances) (walk : Walk) (at : IsBes
         subst (λ o. IsFirstSharer b start end (option_map instance_of o)) e first y k
         (record { instant = s.instant; before = s.before; in_first = s.in_second; in_second = (omega (arith, ints, begins, i.0), omega (arith, ints, ends, i.1)) })
 
-    pub beside_past : found ≡ None → (rest : Instances) (new : Walk) → GoesOn a from next walk rest new → IsBesideSince a b from rest new
+    pub beside_past : found ≡ None → (rest : Instances) (new : Walk) → WalksOn a from next walk rest new → IsBesideSince a b from rest new
     beside_past e rest new g = record {
       tail = g.tail;
       clear = λ x y h k s late. elim (g.one x h) [
@@ -169,7 +169,7 @@ module _ (a : Event) (from : ℤ) (left : Instances) (walk : Walk) (at : IsAlone
     never : MeetsNone walk.last next → (x : SaidInstance) → IsBehind a (walk_place walk.next) x → SharesLate x (instance_of next) → ⊥
     never none x h (s, late) = meets_none_since a from (walk_place walk.next) walk.last next at.tail.last none x h s late
 
-    pub alone_passed : (rest : Instances) (new : Walk) → MeetsNone walk.last next → GoesOn a from next walk rest new → IsAloneSince a from rest new
+    pub alone_passed : (rest : Instances) (new : Walk) → MeetsNone walk.last next → WalksOn a from next walk rest new → IsAloneSince a from rest new
     alone_passed rest new none g = record {
       tail = g.tail;
       clear = λ x y h k differ s late. elim (g.one x h) [

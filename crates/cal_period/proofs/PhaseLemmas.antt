@@ -13,7 +13,7 @@ use Rattle.profile.specs.series.Residues.{is_in_form}
 use Rattle.cal_rules.specs.Forms.{AreApartBy, IsCovered, form_cycle, form_day, is_listed, listed_day}
 use Rattle.cal_rules.proofs.Forms.{form_shift, stride_times}
 use Rattle.cal_rules.proofs.Covers.{cover, cycle_stride, listed_form}
-use Rattle.cal_period.specs.Phases.{AreTurns, IsNth, IsPhase, nth_number, nth_offset, turned}
+use Rattle.cal_period.specs.Phases.{AreTurns, IsNth, IsPhase, nth_phase_number, nth_offset, turned}
 
 -- ---- congruent instants
 
@@ -86,7 +86,7 @@ turned_seconds n later c t k q m s second offset e f =
 abbrev number_at : ℕ → ℕ → ℕ → ℕ
 number_at turn i place = 14 * turn + 2 * i + place
 
-number_parts : (turn i place : ℕ) → i < 7 → place < 2 → (nth_number (number_at turn i place) ≡ i) × (number_at turn i place / 14 ≡ turn) × (number_at turn i place % 2 ≡ place)
+number_parts : (turn i place : ℕ) → i < 7 → place < 2 → (nth_phase_number (number_at turn i place) ≡ i) × (number_at turn i place / 14 ≡ turn) × (number_at turn i place % 2 ≡ place)
 number_parts turn i place few two = (omega (arith, few, two), omega (arith, few, two), omega (arith, few, two))
 
 number_below : (turn i place turns : ℕ) → turn < turns → i < 7 → place < 2 → number_at turn i place < 14 * turns
@@ -120,7 +120,7 @@ module _ (p : Pattern) (second : ℕ) (least greatest : ℤ) (m : ℕ) where
       number : ℕ
       number = number_at turn i place
 
-      parts : (nth_number number ≡ i) × (number / 14 ≡ turn) × (number % 2 ≡ place)
+      parts : (nth_phase_number number ≡ i) × (number / 14 ≡ turn) × (number % 2 ≡ place)
       parts = number_parts turn i place few two
 
       half : place % 2 ≡ place
@@ -169,12 +169,12 @@ module _ (p : Pattern) (second : ℕ) (least greatest : ℤ) (m : ℕ) where
 
   pub is_phase : (number residue : ℕ) → 1 ≤ p.interval → p.week_start < 7 → IsNth p second least greatest m number residue → IsPhase p second least greatest m residue
   is_phase number residue some week n =
-      let l = listed_is (nth_number number) n.day n.listed in
+      let l = listed_is (nth_phase_number number) n.day n.listed in
       let d = n.day in
       let turns = number / 14 in
       let shift = form_shift p (turns * form_cycle p) n.day (stride_times p turns (form_cycle p) (cycle_stride p)) some week in
       let at : d + turns * form_cycle p ≡ turned p d number = ap (λ x. d + x) (mul_comm turns (form_cycle p)) in
-      let form : is_in_form p n.day ≡ true = subst (λ x. is_in_form p x ≡ true) l.1 (listed_form p (nth_number number) l.0) in
+      let form : is_in_form p n.day ≡ true = subst (λ x. is_in_form p x ≡ true) l.1 (listed_form p (nth_phase_number number) l.0) in
       record {
         below = n.below;
         day = turned p d number;
@@ -191,7 +191,7 @@ module _ (p : Pattern) (second : ℕ) (least greatest : ℤ) (m : ℕ) where
 
   -- ---- the first numbers
 
-  pub unlisted : (number residue : ℕ) → listed_day p (nth_number number) ≡ None → IsNth p second least greatest m number residue → ⊥
+  pub unlisted : (number residue : ℕ) → listed_day p (nth_phase_number number) ≡ None → IsNth p second least greatest m number residue → ⊥
   unlisted number residue none n = none-some n.day (sym none ∙ n.listed)
 
   pub holds_none : (holds : ℕ → Type 0) (number residue : ℕ) → number < 0 → IsNth p second least greatest m number residue → holds residue
@@ -208,7 +208,7 @@ module _ (p : Pattern) (second : ℕ) (least greatest : ℤ) (m : ℕ) where
   ]
 
   pub holds_still : (count : ℕ) (holds : ℕ → Type 0) → ((number residue : ℕ) → number < count → IsNth p second least greatest m number residue → holds residue)
-      → listed_day p (nth_number count) ≡ None
+      → listed_day p (nth_phase_number count) ≡ None
       → (number residue : ℕ) → number < count + 1 → IsNth p second least greatest m number residue → holds residue
   holds_still count holds before none number residue less k = elim (cases_lt number count) [
     | inl low ↦ before number residue low k
@@ -242,7 +242,7 @@ module _ (p : Pattern) (second : ℕ) (least greatest : ℤ) (m : ℕ) where
           Contains-append_right old (first ∷ []) residue ((0, omega arith, one_nth count first residue n (subst (λ x. IsNth p second least greatest m x residue) same f.2)))
 
   pub first_still : (count : ℕ) (old : List ℕ) → ((residue : ℕ) → (Contains old residue → First count residue) × (First count residue → Contains old residue))
-      → listed_day p (nth_number count) ≡ None
+      → listed_day p (nth_phase_number count) ≡ None
       → (residue : ℕ) → (Contains old residue → First (count + 1) residue) × (First (count + 1) residue → Contains old residue)
   first_still count old before none residue = (λ c. later count residue ((before residue).0 c), λ f. from f (cases_lt f.0 count))
     where

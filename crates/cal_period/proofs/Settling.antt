@@ -20,7 +20,7 @@ use Rattle.cal_events.specs.Series.{AreKnownByStart}
 use Rattle.cal_events.specs.declared.instance.Instance.{Instance as Found}
 use Rattle.cal_events.proofs.shared_lemmas.OwnSingles.{IsAtStart, at_start}
 use Rattle.cal_period.specs.Clear.{AreSeriesClear, IsSeriesClear, AreClearBelow, IsClearBelow}
-use Rattle.cal_period.specs.Onward.{IsSharedByPair, IsSharedBelow, IsSharedAlone, IsSharedAloneBelow, Settles}
+use Rattle.cal_period.specs.Onward.{IsSharedByPair, IsSharedBelow, IsSharedAlone, IsSharedAloneBelow, SettlesPair}
 use Rattle.cal_period.specs.Members.{Lasts}
 use Rattle.cal_period.proofs.SaidSeries.{has_said, past_for}
 use Rattle.cal_period.proofs.Widths.{width_at}
@@ -38,7 +38,7 @@ alone_settled a bound (Some p) settles shared = shared
 
 -- ---- up to the horizon
 
-pub horizon_settles : (a b : Event) → AreKnownByStart a → AreKnownByStart b → Settles a b horizon
+pub horizon_settles : (a b : Event) → AreKnownByStart a → AreKnownByStart b → SettlesPair a b horizon
 horizon_settles a b known_a known_b = record {
   pair = λ clear x y h k s. clear x y h k (known_a.dates x h).1 (known_b.dates y k).1 s;
   alone = λ clear x y h k differ s. clear x y h k (known_a.dates x h).1 (known_a.dates y k).1 differ s;
@@ -143,7 +143,7 @@ module _ (laws : SpanLaws) (all : List Event) (from bound : ℤ) (days : ℕ) (s
 
 -- each series is said, though not by which VEVENT
 module _ (laws : SpanLaws) where
-  pub span_settles : (a b : Event) (from bound : ℤ) (days : ℕ) → IsSpan (a ∷ b ∷ []) from days → IsBoundOf (a ∷ b ∷ []) from days bound → ∥ IsSaidSeries a ∥₁ → ∥ IsSaidSeries b ∥₁ → Settles a b bound
+  pub span_settles : (a b : Event) (from bound : ℤ) (days : ℕ) → IsSpan (a ∷ b ∷ []) from days → IsBoundOf (a ∷ b ∷ []) from days bound → ∥ IsSaidSeries a ∥₁ → ∥ IsSaidSeries b ∥₁ → SettlesPair a b bound
   span_settles a b from bound days span is said_a said_b = record {
     pair = λ clear x y h k s.
         ∥∥₁_elim said_a ⊥_prop (λ p.

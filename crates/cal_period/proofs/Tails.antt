@@ -11,7 +11,7 @@ use Rattle.cal_events.specs.declared.instances.Instances.{Instances}
 use Rattle.cal_period.specs.Clear.{AreClearBelow, ArePair}
 use Rattle.cal_period.specs.Onward.{AreNoneBefore, MeetFrom}
 use Rattle.cal_period.specs.Turns.{MeetsNoMore}
-use Rattle.cal_period.specs.Walks.{walk_place, IsNoneBelow, IsAhead, IsBehind, IsLastSince, Tail, EntersWalk, GoesOn, MeetsInstance, MeetsNone}
+use Rattle.cal_period.specs.Walks.{walk_place, IsNoneBelow, IsAhead, IsBehind, IsLastSince, Tail, EntersWalk, WalksOn, MeetsInstance, MeetsNone}
 use Rattle.cal_period.specs.declared.walk.Walk.{Walk}
 use Rattle.cal_period.proofs.Pairs.{AreAbreast, abreast_turned, abreast_found, abreast_past}
 use Rattle.cal_period.proofs.Sweeping.{Share, turned, next_is, all_behind}
@@ -91,7 +91,7 @@ module _ (a b : Event) (by : ℤ) (from : MeetFrom a b by) (of_a of_b : Instance
         let behind = behind_since b by (walk_place second.next) second.last last at.in_second.last m.0 in
         abreast_found a b (walk_place first.next) (walk_place second.next) at.abreast next (ap walk_place is) own (at.in_first.ahead.known.dates (instance_of next) own).1 last behind (m.1, m.2)
 
-    pub onward_past : (rest : Instances) (new : Walk) → IfSome second.next (λ y. next.start ≤ℤ y.start) → MeetsNone second.last next → GoesOn a by next first rest new → AreOnward a b by rest of_b new second
+    pub onward_past : (rest : Instances) (new : Walk) → IfSome second.next (λ y. next.start ≤ℤ y.start) → MeetsNone second.last next → WalksOn a by next first rest new → AreOnward a b by rest of_b new second
     onward_past rest new before none g = record {
       in_first = g.tail;
       in_second = at.in_second;

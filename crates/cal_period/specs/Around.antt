@@ -15,8 +15,8 @@ pub record IsOver (m first : ℕ) (width : ℤ) (next : ℕ) : Type 0 where
   pub around : next < first → (pos first +ℤ width) ≤ℤ (pos next +ℤ pos m)
 
 -- the arc of one residue meets none of the arcs of these
-abbrev pub MeetsNone : ℕ → ℕ → ℤ → List ℕ → ℤ → Type 0
-MeetsNone m r width others other = (s : ℕ) → Contains others s → ArcsMeet m r width s other → ⊥
+abbrev pub MeetsNoArc : ℕ → ℕ → ℤ → List ℕ → ℤ → Type 0
+MeetsNoArc m r width others other = (s : ℕ) → Contains others s → ArcsMeet m r width s other → ⊥
 
 -- no arc of these meets an arc of those
 abbrev pub AreApart : ℕ → List ℕ → ℤ → List ℕ → ℤ → Type 0
@@ -29,7 +29,7 @@ IsApart m all width = (width ≤ℤ pos m) × ((r s : ℕ) → Contains all r �
 -- ---- neighbours
 
 -- none of these comes before the next one, from a residue on and around; and none but the residue itself after the one before
-pub record AreNeighbours (residue : ℕ) (others : List ℕ) (before next : ℕ) : Type 0 where
+pub record AreBesideResidue (residue : ℕ) (others : List ℕ) (before next : ℕ) : Type 0 where
   pub has_before : Contains others before
   pub has_next : Contains others next
   pub from : (s : ℕ) → Contains others s → residue ≤ s → (residue ≤ next) × (next ≤ s)

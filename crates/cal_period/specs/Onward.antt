@@ -23,7 +23,7 @@ abbrev pub IsSharedAloneBelow : Event → ℤ → Option (Instance × Instance) 
 IsSharedAloneBelow a bound shared = MatchOption shared (IsClearBelow a bound) (λ s. AreTwo a (instance_of s.0) (instance_of s.1))
 
 -- what starts before this instant settles whether two series are clear, and whether the first of them is clear by itself
-pub record Settles (a b : Event) (bound : ℤ) : Type 0 where
+pub record SettlesPair (a b : Event) (bound : ℤ) : Type 0 where
   pub pair : AreClearBelow a b bound → AreSeriesClear a b
   pub alone : IsClearBelow a bound → IsSeriesClear a
 
@@ -48,5 +48,5 @@ pub record MeetFrom (a b : Event) (instant : ℤ) : Type 0 where
   pub begins : AreNoneBefore a instant ⊎ AreNoneBefore b instant
 
 -- what starts before the entry is over by an instant
-abbrev pub IsEntry : Event → ℤ → ℤ → Type 0
-IsEntry series by entry = (entry ≤ℤ by) × ((b : SaidInstance) → IsInstance series b → b.start <ℤ entry → b.end ≤ℤ by)
+abbrev pub IsEntryBefore : Event → ℤ → ℤ → Type 0
+IsEntryBefore series by entry = (entry ≤ℤ by) × ((b : SaidInstance) → IsInstance series b → b.start <ℤ entry → b.end ≤ℤ by)

@@ -3,7 +3,7 @@ use Rattle.std.specs.Prelude.{◌≡◌, ◌≢◌, ℕ, ◌<◌, List, Contains
 use Rattle.profile.specs.series.Repeating.{ArcsMeet}
 use Rattle.cal_rules.specs.Forms.{listed_day}
 use Rattle.cal_period.specs.declared.phases.Phases.{Phases}
-use Rattle.cal_period.specs.Phases.{AreTurns, IsNth, IsPhase, nth_number}
+use Rattle.cal_period.specs.Phases.{AreTurns, IsNth, IsPhase, nth_phase_number}
 
 abbrev pub IsPhaseOf : Phases → ℕ → ℕ → Type 0
 IsPhaseOf f m residue = IsPhase f.rule.now.pattern f.second f.least f.greatest m residue
@@ -13,14 +13,14 @@ IsNthOf f m number residue = IsNth f.rule.now.pattern f.second f.least f.greates
 
 -- it is the phase of that number, if there is one
 abbrev pub IsNthOr : Phases → ℕ → ℕ → Option ℕ → Type 0
-IsNthOr f m number found = MatchOption found (listed_day f.rule.now.pattern (nth_number number) ≡ None) (IsNthOf f m number)
+IsNthOr f m number found = MatchOption found (listed_day f.rule.now.pattern (nth_phase_number number) ≡ None) (IsNthOf f m number)
 
 abbrev pub AreTurnsOf : Phases → ℕ → ℕ → Type 0
 AreTurnsOf f m turns = AreTurns f.rule.now.pattern m turns
 
 -- these are the phases of the first numbers
-abbrev pub AreFirst : Phases → ℕ → ℕ → List ℕ → Type 0
-AreFirst f m count residues = (residue : ℕ) → Contains residues residue ↔ ((number : ℕ) × (number < count) × IsNthOf f m number residue)
+abbrev pub AreFirstPhases : Phases → ℕ → ℕ → List ℕ → Type 0
+AreFirstPhases f m count residues = (residue : ℕ) → Contains residues residue ↔ ((number : ℕ) × (number < count) × IsNthOf f m number residue)
 
 -- this holds of the phases of the first numbers
 abbrev pub HoldsOfFirst : Phases → ℕ → ℕ → (ℕ → Type 0) → Type 0

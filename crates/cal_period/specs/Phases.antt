@@ -22,8 +22,8 @@ abbrev pub nth_offset : ℤ → ℤ → ℕ → ℤ
 nth_offset least greatest number = if (number % 2) == 0 then least else greatest
 
 -- the day of that number that stands for others; each has two numbers, one for each offset, in each turn of the cycle
-abbrev pub nth_number : ℕ → ℕ
-nth_number number = number / 2 % 7
+abbrev pub nth_phase_number : ℕ → ℕ
+nth_phase_number number = number / 2 % 7
 
 -- so many turns later
 abbrev pub turned : Pattern → ℕ → ℕ → ℕ
@@ -33,7 +33,7 @@ turned p day number = day + form_cycle p * (number / 14)
 pub record IsNth (p : Pattern) (second : ℕ) (least greatest : ℤ) (m number residue : ℕ) : Type 0 where
   pub below : residue < m
   pub day : ℕ
-  pub listed : listed_day p (nth_number number) ≡ Some day
+  pub listed : listed_day p (nth_phase_number number) ≡ Some day
   pub same : IsCongruent m (local_time (turned p day number) second -ℤ nth_offset least greatest number) (pos residue)
 
 -- after so many turns of its cycle the form is where it was, modulo m

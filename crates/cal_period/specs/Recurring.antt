@@ -3,8 +3,8 @@ use Rattle.std.specs.Prelude.{◌↔◌, ℕ, ℤ, pos, ◌*◌, ◌+ℤ◌, ◌
 use Rattle.profile.specs.series.Periods.{IsMultiple, most_period}
 
 -- every such number is past the most
-abbrev pub HasNone : (ℕ → Type 0) → Type 0
-HasNone Is = (n : ℕ) → 0 < n → Is n → most_period < n
+abbrev pub AreAllPastMost : (ℕ → Type 0) → Type 0
+AreAllPastMost Is = (n : ℕ) → 0 < n → Is n → most_period < n
 
 -- such numbers are the multiples of this one
 pub record AreMultiples (Is : ℕ → Type 0) (days : ℕ) : Type 0 where

@@ -99,7 +99,7 @@ pub record EntersWalk (series : Event) (by entry : ℤ) (left : Instances) (walk
   pub over : (b : SaidInstance) → IsBehind series (walk_place walk.next) b → b.end ≤ℤ by
 
 -- it went past one instance
-pub record GoesOn (series : Event) (by : ℤ) (i : Instance) (old : Walk) (left : Instances) (new : Walk) : Type 0 where
+pub record WalksOn (series : Event) (by : ℤ) (i : Instance) (old : Walk) (left : Instances) (new : Walk) : Type 0 where
   pub tail : Tail series by left new
   pub further : walk_place old.next <ℤ walk_place new.next
   pub one : (b : SaidInstance) → IsBehind series (walk_place new.next) b → IsBehind series (walk_place old.next) b ⊎ (b ≡ instance_of i)

@@ -4,7 +4,7 @@ ghost use Rattle.std.specs.List.{slice_index};
 ghost use Rattle.std.specs.List.Sorted.{IsStrictlyIncreasing};
 ghost use Rattle.profile.specs.checker.Instances.{IsWithin};
 ghost use Rattle.profile.specs.series.Repeating.{ArcsMeet, IsCongruent};
-ghost use Rattle.cal_period.specs.Around.{AreAround, IsOver, AreNeighbours, MeetsNone, AreApart, IsApart, AreStepsOver, IsLastOver};
+ghost use Rattle.cal_period.specs.Around.{AreAround, IsOver, AreBesideResidue, MeetsNoArc, AreApart, IsApart, AreStepsOver, IsLastOver};
 
 /// Does no arc of the first residues, `width` seconds long, meet an arc of the second ones, `other` seconds long? It takes a binary search
 /// among the second for each of the first. It requires an m below 2^40, and of each residues that are below m and ascending, none twice.
@@ -83,7 +83,7 @@ fn meets_none(m: u64, residue: u64, width: i64, others: &[u64], other: i64) -> b
     requires modulus { m < 2 ^ 40 }
     requires residue { residue < m }
     requires others { AreAround m others.now }
-    ensures { IsTrue result ↔ MeetsNone m residue width others.now other }
+    ensures { IsTrue result ↔ MeetsNoArc m residue width others.now other }
 {
     match neighbours(residue, others) {
         Some((before, next)) => {
@@ -97,7 +97,7 @@ fn meets_none(m: u64, residue: u64, width: i64, others: &[u64], other: i64) -> b
 /// The last of the others before a residue, and the first from it on, around m; None where there are no others.
 fn neighbours(residue: u64, others: &[u64]) -> Option<(u64, u64)>
     requires { IsStrictlyIncreasing others.now }
-    ensures { MatchOption result (length others.now ≡ 0) (λ p. AreNeighbours residue others.now p.0 p.1) }
+    ensures { MatchOption result (length others.now ≡ 0) (λ p. AreBesideResidue residue others.now p.0 p.1) }
 {
     if others.is_empty() {
         return None;

@@ -4,7 +4,7 @@
 ghost use Rattle.std.specs.Prelude.{ℤ, ◌+ℤ◌, ◌≤ℤ◌};
 ghost use Rattle.profile.specs.events.Spans.{IsWidthOf};
 ghost use Rattle.cal_events.specs.Series.{series_said};
-ghost use Rattle.cal_period.specs.Onward.{IsSharedByPair, IsSharedBelow, IsFirstStart, MeetFrom, IsEntry};
+ghost use Rattle.cal_period.specs.Onward.{IsSharedByPair, IsSharedBelow, IsFirstStart, MeetFrom, IsEntryBefore};
 
 use crate::abreast::{Turn, turn_of};
 use crate::by_residues::are_clear_by_residues;
@@ -99,7 +99,7 @@ fn clash_onward<'a>(
 
 /// Where to enter a series: what starts earlier is over by an instant. It is no more than a width before that.
 pub(crate) fn entry(series: &Series, by: i64) -> i64
-    ensures over { IsEntry (series_said series.now) by result }
+    ensures over { IsEntryBefore (series_said series.now) by result }
     ensures near { (width : ℤ) × IsWidthOf (series_said series.now) width × (by ≤ℤ (result +ℤ width)) }
 {
     known_by_start();

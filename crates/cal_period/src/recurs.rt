@@ -1,7 +1,7 @@
 //! What recurs: rules, zones and series. Each does the same again after each of its periods.
 ghost use Rattle.std.specs.Prelude.{◌≡◌, ℕ, ℤ, ◌≤ℤ◌, MatchOption};
 ghost use Rattle.profile.specs.events.Spans.{has_end};
-ghost use Rattle.cal_period.specs.Recurring.{HasNone, AreMultiples, DoesRecur, HasNoCommon, IsLeastCommon};
+ghost use Rattle.cal_period.specs.Recurring.{AreAllPastMost, AreMultiples, DoesRecur, HasNoCommon, IsLeastCommon};
 
 use crate::law::{periods_are_multiples, series_repeat};
 use cal_days::{Day, LAST_INDEX};
@@ -30,7 +30,7 @@ pub trait Recurs {
 
     /// After how many days it does the same: its periods are the multiples of that number. None where they are more than 2,932,897.
     fn period_days(&self) -> Option<u64>
-        ensures { MatchOption result (HasNone (Self.period self.now)) (AreMultiples (Self.period self.now)) };
+        ensures { MatchOption result (AreAllPastMost (Self.period self.now)) (AreMultiples (Self.period self.now)) };
 
     /// From which instant on it does.
     fn regular_from(&self) -> i64

@@ -4,7 +4,7 @@ ghost use Rattle.profile.specs.events.Events.{Event};
 ghost use Rattle.cal_events.specs.Left.{GivesFirst};
 ghost use Rattle.cal_events.specs.Series.{AreKnownByStart};
 ghost use Rattle.cal_events.specs.declared.instances.Instances.{Instances};
-ghost use Rattle.cal_period.specs.Walks.{IsNoneBelow, AreAllLeft, AreLeftFrom, BeginsWalk, EntersWalk, IsWalkOf, Tail, GoesPast, GoesOn, MeetsNone, MeetsInstance, IsGoingOn, EndsLater};
+ghost use Rattle.cal_period.specs.Walks.{IsNoneBelow, AreAllLeft, AreLeftFrom, BeginsWalk, EntersWalk, IsWalkOf, Tail, GoesPast, WalksOn, MeetsNone, MeetsInstance, IsGoingOn, EndsLater};
 
 use cal_events::Instance;
 
@@ -72,7 +72,7 @@ impl<'a> Walk<'a> {
         ensures is_walk { (series : Event) (old new : Instances) → IsWalkOf series old self.now → GivesFirst old after.entry new
             → GoesPast series next.entry self.now new result }
         ensures tail { (series : Event) (by : ℤ) (old new : Instances) → Tail series by old self.now → GivesFirst old after.entry new
-            → GoesOn series by next.entry self.now new result }
+            → WalksOn series by next.entry self.now new result }
     {
         Walk {
             next: after,

@@ -27,3 +27,4 @@ pub mod RoomZoneLemmas
 pub mod RoomReads
 pub mod RoomZoneExamples
 pub mod OneRoomZone
+pub mod ZoneTables

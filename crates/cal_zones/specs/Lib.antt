@@ -12,3 +12,4 @@ pub mod Spans
 pub mod Repeats
 pub mod RoomWords
 pub mod RoomZones
+pub mod ZoneNames

@@ -15,6 +15,7 @@ mod room_zone;
 mod write;
 mod yearly;
 mod zone;
+mod zone_names;
 
 pub use clock::Clock;
 pub use law::zones_repeat;
@@ -26,3 +27,4 @@ pub use room_zone::RoomZone;
 pub use write::zone_reads_back;
 pub use yearly::{MonthDays, Yearly};
 pub use zone::Zone;
+pub use zone_names::zone_name;

@@ -9,7 +9,7 @@ use Rattle.profile.specs.text.Values.{WritesStamp}
 use Rattle.profile.specs.checker.Certificates.{Pair, Group, Claims, IsClaims, IsEntry, IsGroup, IsGroupLine, IsPairLine, IsPair, IsPairBefore, IsApart, AreInOrder, AreTogether, AreLines, groups_of, numbers_text, version_line, spelled, SpellsCertificate, FirstWrong}
 use Rattle.clash_cert.specs.Texts.{Lacks, LacksLine}
 use Rattle.clash_cert.specs.Reading.{IsGroupAt, LacksGroup, version_text}
-use Rattle.clash_cert.specs.Walked.{HasLine, AreEntriesBefore, HasGroupLines, HasPairLines, AreGroupsOf, AreAllGroups, AreStatementsOf, BreaksGroups, BreaksPairs, BreaksInGroups, BreaksInPairs, LacksDone, HasMore, IsBroken, IsNextGroup, groups_in}
+use Rattle.clash_cert.specs.Walked.{HasPairLine, AreEntriesBefore, HasGroupLines, HasPairLines, AreGroupsOf, AreAllGroups, AreStatementsOf, BreaksGroups, BreaksPairs, BreaksInGroups, BreaksInPairs, LacksDone, HasMore, IsBroken, IsNextGroup, groups_in}
 use Rattle.clash_cert.specs.declared.reading.Version.{Version}
 use Rattle.clash_cert.specs.declared.reading.Version.TheVariants.{First, Second}
 use Rattle.clash_cert.proofs.TextLemmas.{cancel, one_line, spelled-append, breaks}
@@ -123,7 +123,7 @@ module _ (n : ℕ) (groups : List Group) (pairs : List Pair) where
   none_behind (q ∷ qs) e rest = absurd (not_read q qs rest (e.all q.first q.second (its_pair q qs rest) tt))
 
   -- else the next one
-  next_behind : (i j : ℕ) (back : List Pair) → AreEntriesBefore n groups (Some (i, j)) pairs → HasLine n groups i j → AreRest n groups pairs back
+  next_behind : (i j : ℕ) (back : List Pair) → AreEntriesBefore n groups (Some (i, j)) pairs → HasPairLine n groups i j → AreRest n groups pairs back
       → (q : Pair) × (qs : List Pair) × (back ≡ q ∷ qs) × (q.first ≡ i) × (q.second ≡ j)
   next_behind i j back e has rest =
       elim (rest.all i j has.pair) [

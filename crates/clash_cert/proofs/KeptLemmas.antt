@@ -9,7 +9,7 @@ use Rattle.profile.specs.events.Events.{Event}
 use Rattle.profile.specs.events.Confirmed.{Confirmed}
 use Rattle.profile.specs.checker.Certificates.{Claims, Entry, Pair, Group, groups_of, IsApart, IsEntry, IsClaims, IsPair, IsEntryMade, IsSeriesAt, IsCertificateMade}
 use Rattle.clash_cert.specs.Texts.{IsEntryAmong, theirs, none}
-use Rattle.clash_cert.specs.Chosen.{AreKept, IsSaidOf, IsEntryAt}
+use Rattle.clash_cert.specs.Chosen.{AreKeptFrom, IsSaidOf, IsEntryAt}
 use Rattle.clash_cert.proofs.ChosenLemmas.{pairs_start, certificate_kept}
 use Rattle.clash_cert.proofs.TurnLemmas.{entry_turned}
 
@@ -69,7 +69,7 @@ same_test : (i j n m : ℕ) → (i ≡ j → n ≡ m) → (n ≡ m → i ≡ j) 
 same_test i j n m there back = grind (arith, nat_tests)
 
 pub kept_entry : (c : Claims) (kept : List (Option ℕ)) (all : List Event) (i j n m : ℕ) (entry : Entry) → slice_get kept i ≡ Some (Some n) → slice_get kept j ≡ Some (Some m) → IsSaidOf c n m entry
-    → IsEntryAt (AreKept c kept all) all i j entry
+    → IsEntryAt (AreKeptFrom c kept all) all i j entry
 kept_entry c kept all i j n m entry of_i of_j said known a b at_a at_b =
     let there : i ≡ j → n ≡ m = λ e. same_Some n m (same_Some (Some n) (Some m) (sym of_i ∙ ap (slice_get kept) e ∙ of_j)) in
     let back : n ≡ m → i ≡ j = λ e. known.once i j m (of_i ∙ ap (λ (k : ℕ). Some (Some k)) e) of_j in
@@ -84,7 +84,7 @@ if_ok_then (Err e) P Q f p = tt
 
 -- ---- from nothing
 
-pub nothing_kept : (all : List Event) → AreKept (record { singles = 0; series = 0; groups = None; pairs = [] }) [] all
+pub nothing_kept : (all : List Event) → AreKeptFrom (record { singles = 0; series = 0; groups = None; pairs = [] }) [] all
 nothing_kept all = record {
   was = record { singles = []; series = [] };
   made = certificate_kept ⊤ [] 0 0 [] (lit< tt) (lit< tt) refl (pairs_start ⊤ []) tt (record { singles = []; series = [] }) refl refl;

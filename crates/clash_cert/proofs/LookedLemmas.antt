@@ -11,7 +11,7 @@ use Rattle.profile.proofs.MadeCertificates.{series_at}
 use Rattle.profile.specs.checker.Certificates.{Claims}
 use Rattle.cal_events.specs.declared.instance.Instance.{Instance}
 use Rattle.cal_period.specs.Every.{IsPairClear, IsAtShared}
-use Rattle.clash_cert.specs.Chosen.{AreKept, AreKeptClear}
+use Rattle.clash_cert.specs.Chosen.{AreKeptFrom, AreKeptClear}
 use Rattle.clash_cert.specs.Looked.{are_both_kept, IsLookedAt, IsRowLookedAt, AreRowsLookedAt, AreLookedAt, IsAtFound}
 use Rattle.clash_cert.proofs.KeptLemmas.{number_there}
 use Rattle.clash_cert.proofs.MakingLemmas.{all_clear}
@@ -74,7 +74,7 @@ module _ (kept : List (Option ℕ)) (all : List Event) where
       go false new = looked p (omega (arith, l, w)) q l w new
 
 -- two series that are kept of a clear calendar are clear
-pub kept_clear : (old : Claims) (kept : List (Option ℕ)) (all : List Event) (known : AreKept old kept all) → IsClear (IsOneOf known.was) → (i j n m : ℕ) → slice_get kept i ≡ Some (Some n) → slice_get kept j ≡ Some (Some m)
+pub kept_clear : (old : Claims) (kept : List (Option ℕ)) (all : List Event) (known : AreKeptFrom old kept all) → IsClear (IsOneOf known.was) → (i j n m : ℕ) → slice_get kept i ≡ Some (Some n) → slice_get kept j ≡ Some (Some m)
     → IsPairClear all i j
 kept_clear old kept all known clear i j n m of_i of_j a b at_a at_b x y t h k clash =
     let was = known.was in

@@ -23,7 +23,7 @@ use Rattle.cal_events.specs.declared.instance.Instance.{Instance}
 use Rattle.cal_events.specs.declared.instance.OwnedKey.{OwnedKey}
 use Rattle.cal_events.proofs.draft_lemmas.KeyLemmas.{key_total, key_exact}
 use Rattle.clash_cert.specs.declared.making.Clash.{Clash}
-use Rattle.clash_cert.specs.Makings.{HasKeys, IsNamedClash, IsNamedAs, AreNamed, IsLaterStart, NamesOf}
+use Rattle.clash_cert.specs.Makings.{HasKeys, IsNamedClash, IsNamedAs, AreBothNamed, IsLaterStart, NamesOf}
 use Rattle.ical_values.proofs.Facts.{is_lt_true}
 
 booked_total : IsTotalOrder instance_cmp
@@ -126,7 +126,7 @@ names_of These Those a b x y clash ea eb in_a in_b n =
     keyed false keys = record { a = a; b = b; keys = keys; of = inl (in_a, in_b) }
 
 -- the lesser is named first
-pub named_first : (a b : SaidInstance) (t : ℤ) (clash : Clash) (r : Bool) → is_lt (instance_cmp b a) ≡ r → MatchBool r (HasKeys b a t clash) (HasKeys a b t clash) → AreNamed a b t clash
+pub named_first : (a b : SaidInstance) (t : ℤ) (clash : Clash) (r : Bool) → is_lt (instance_cmp b a) ≡ r → MatchBool r (HasKeys b a t clash) (HasKeys a b t clash) → AreBothNamed a b t clash
 named_first a b t clash r e h = subst (λ v. MatchBool v (HasKeys b a t clash) (HasKeys a b t clash)) (sym e) h
 
 -- ---- singles by their places

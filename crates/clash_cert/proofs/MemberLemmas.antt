@@ -12,7 +12,7 @@ use Rattle.std.proofs.Math.Seq.{drop-cons}
 use Rattle.std.proofs.lemmas.Option.{same_Some, none-some, slice_get-get_or, slice_get_within, get_or_from_slice_get}
 use Rattle.std.proofs.lemmas.List.Elements.{Contains-append_cases, Contains-append_left}
 use Rattle.profile.specs.checker.Certificates.{Group, IsPair, IsPairBefore, AreTogether}
-use Rattle.clash_cert.specs.Walked.{IsMemberOf, member_of, IsOfGroups, AreApart, IsRunEnd, HasLine, IsBeforeNext, IsNextOf, IsNextAfter, IsPairFrom, IsNextFrom, IsApartFrom, IsApartIn}
+use Rattle.clash_cert.specs.Walked.{IsMemberOf, member_of, IsOfGroups, AreApart, IsRunEnd, HasPairLine, IsBeforeNext, IsNextOf, IsNextPairAfter, IsPairFrom, IsNextFrom, IsApartFrom, IsApartIn}
 use Rattle.clash_cert.specs.declared.members.Member.{Member}
 use Rattle.clash_cert.specs.declared.members.Members.{Members}
 use Rattle.clash_cert.specs.declared.members.Run.{Run}
@@ -217,7 +217,7 @@ next_of : (From To : ℕ → ℕ → Type 0) (n : ℕ) (groups : List Group) (ne
 next_of From To n groups None f g x = record { is = tt; none_before = λ p q pair t b. x.none_before p q pair (g p q pair t) b }
 next_of From To n groups (Some r) f g x = record { is = (x.is.0, f r.0 r.1 x.is.0.pair x.is.1); none_before = λ p q pair t b. x.none_before p q pair (g p q pair t) b }
 
-pub next_first : (n : ℕ) (groups : List Group) (next : Option (ℕ × ℕ)) → IsNextFrom 1 1 n groups next → IsNextAfter 0 0 n groups next
+pub next_first : (n : ℕ) (groups : List Group) (next : Option (ℕ × ℕ)) → IsNextFrom 1 1 n groups next → IsNextPairAfter 0 0 n groups next
 next_first n groups next = next_of (IsPairFrom 1 1) (IsPairBefore 0 0) n groups next (λ p q pair from. inl pair.0) from
   where
     from : (p q : ℕ) → IsPair n p q → IsPairBefore 0 0 p q → IsPairFrom 1 1 p q
@@ -230,7 +230,7 @@ next_first n groups next = next_of (IsPairFrom 1 1) (IsPairBefore 0 0) n groups 
           | inr v ↦ elim v [ inl lt ↦ inl (inl lt) | inr lt ↦ absurd (omega (arith, lt, pair.0)) ]
         ]
 
-pub next_in_row : (n i j : ℕ) (groups : List Group) (next : Option (ℕ × ℕ)) → IsNextFrom i (suc j) n groups next → IsNextAfter i j n groups next
+pub next_in_row : (n i j : ℕ) (groups : List Group) (next : Option (ℕ × ℕ)) → IsNextFrom i (suc j) n groups next → IsNextPairAfter i j n groups next
 next_in_row n i j groups next = next_of (IsPairFrom i (suc j)) (IsPairBefore i j) n groups next to from
   where
     to : (p q : ℕ) → IsPair n p q → IsPairFrom i (suc j) p q → IsPairBefore i j p q
@@ -246,7 +246,7 @@ next_in_row n i j groups next = next_of (IsPairFrom i (suc j)) (IsPairBefore i j
           | inr v ↦ elim v [ inl lt ↦ inl (inr (e, lt)) | inr lt ↦ absurd (omega (arith, a, lt)) ]
         ]
 
-pub next_row : (n i j : ℕ) (groups : List Group) (next : Option (ℕ × ℕ)) → n ≤ j → IsNextFrom (suc i) (suc i) n groups next → IsNextAfter i j n groups next
+pub next_row : (n i j : ℕ) (groups : List Group) (next : Option (ℕ × ℕ)) → n ≤ j → IsNextFrom (suc i) (suc i) n groups next → IsNextPairAfter i j n groups next
 next_row n i j groups next end = next_of (IsPairFrom (suc i) (suc i)) (IsPairBefore i j) n groups next to from
   where
     to : (p q : ℕ) → IsPair n p q → IsPairFrom (suc i) (suc i) p q → IsPairBefore i j p q
@@ -265,7 +265,7 @@ next_row n i j groups next end = next_of (IsPairFrom (suc i) (suc i)) (IsPairBef
           | inr v ↦ elim v [ inl lt ↦ inl (inl lt) | inr lt ↦ absurd (omega (arith, lt, a)) ]
         ]
 
-pub none_after : (n i j : ℕ) (groups : List Group) → n ≤ i → n ≤ j → IsNextAfter i j n groups None
+pub none_after : (n i j : ℕ) (groups : List Group) → n ≤ i → n ≤ j → IsNextPairAfter i j n groups None
 none_after n i j groups end last = record { is = tt; none_before = λ p q pair a b. absurd (none p q pair a) }
   where
     none : (p q : ℕ) → IsPair n p q → IsPairBefore i j p q → ⊥

@@ -10,7 +10,7 @@ use Rattle.std.proofs.lemmas.List.{get_or-map, get_or_default, length-map}
 use Rattle.std.proofs.lemmas.List.Elements.{All-contains}
 use Rattle.profile.specs.checker.Certificates.{Claims, IsClaims, IsApart, IsEntry, IsEntryOf, IsGroup, IsPair, IsPairBefore, AreTogether, groups_of}
 use Rattle.profile.specs.checker.Certificates as said
-use Rattle.clash_cert.specs.Texts.{AreSorted, IsEntryAmong, theirs, none, entry_said, group_said, pair_said}
+use Rattle.clash_cert.specs.Texts.{ArePairsSorted, IsEntryAmong, theirs, none, entry_said, group_said, pair_said}
 use Rattle.clash_cert.specs.Walked.{is_pair_before}
 use Rattle.clash_cert.specs.declared.certificate.Pair.{Pair}
 use Rattle.clash_cert.specs.declared.groups.Group.{Group}
@@ -42,7 +42,7 @@ of_map f [] y c = absurd (none_in_nil y c)
 of_map f (x ∷ xs) y (zero, w, e) = (x, in_head x xs, e)
 of_map f (x ∷ xs) y (suc k, w, e) = let from = of_map f xs y (k, omega (arith, w), e) in (from.0, in_tail x xs from.0 from.1, from.2)
 
-module _ (pairs : List Pair) (first second : ℕ) (up : AreSorted (map pair_said pairs)) where
+module _ (pairs : List Pair) (first second : ℕ) (up : ArePairsSorted (map pair_said pairs)) where
   -- in order, at two places
   before_at : (i j : ℕ) (d : Pair) → i < j → j < length pairs → IsPairBefore (get_or pairs i d).first (get_or pairs i d).second (get_or pairs j d).first (get_or pairs j d).second
   before_at i j d lt w =

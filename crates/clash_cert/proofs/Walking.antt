@@ -6,7 +6,7 @@ use Rattle.std.proofs.lemmas.Bool.{cases_order}
 use Rattle.std.proofs.lemmas.List.Elements.{All-nil, All-push, All-contains, Contains-append_left, Contains-append_cases, Contains-push}
 use Rattle.profile.specs.checker.Certificates.{Entry, End, Pair, Group, IsEntry, IsPairLine, IsPair, IsPairBefore, IsApart, AreTogether, spelled}
 use Rattle.clash_cert.specs.Reading.{IsPairAt}
-use Rattle.clash_cert.specs.Walked.{HasLine, IsBeforeNext, IsNextOf, IsNextAfter, IsPairFrom, AreEntriesBefore, HasPairLines}
+use Rattle.clash_cert.specs.Walked.{HasPairLine, IsBeforeNext, IsNextOf, IsNextPairAfter, IsPairFrom, AreEntriesBefore, HasPairLines}
 use Rattle.clash_cert.proofs.TextLemmas.{spelled-append}
 use Rattle.clash_cert.proofs.ListLemmas.{zip_append, none_in_nil, in_head, in_tail, in_cons, contained, all_of, pairs_nil, pairs_push}
 
@@ -47,7 +47,7 @@ before_later p q i j (inl l) = inl l
 before_later p q i j (inr (e, l)) = inr (e, omega (arith, l))
 
 -- the next one has a line
-pub next_has : (From : ℕ → ℕ → Type 0) (n : ℕ) (groups : List Group) (next : Option (ℕ × ℕ)) → IsNextOf From n groups next → IfSome next (λ p. HasLine n groups p.0 p.1)
+pub next_has : (From : ℕ → ℕ → Type 0) (n : ℕ) (groups : List Group) (next : Option (ℕ × ℕ)) → IsNextOf From n groups next → IfSome next (λ p. HasPairLine n groups p.0 p.1)
 next_has From n groups None x = tt
 next_has From n groups (Some p) x = x.is.0
 
@@ -76,7 +76,7 @@ module _ (n : ℕ) (groups : List Group) where
       none i j pair (inl l) = absurd (omega (arith, l, pair.0))
       none i j pair (inr (e, l)) = absurd (omega (arith, l, pair.0, pair.1))
 
-  pub entries_push : (i j : ℕ) (pairs : List Pair) (entry : Entry) → AreEntriesBefore n groups (Some (i, j)) pairs → HasLine n groups i j → IsEntry entry
+  pub entries_push : (i j : ℕ) (pairs : List Pair) (entry : Entry) → AreEntriesBefore n groups (Some (i, j)) pairs → HasPairLine n groups i j → IsEntry entry
       → AreEntriesBefore n groups (Some (i, suc j)) (pairs ++ (record { first = i; second = j; entry = entry }) ∷ [])
   entries_push i j pairs entry e has good =
       let p : Pair = record { first = i; second = j; entry = entry } in
@@ -95,13 +95,13 @@ module _ (n : ℕ) (groups : List Group) where
 
   -- ---- to the next pair that has a line
 
-  pub entries_first : (next : Option (ℕ × ℕ)) → IsNextAfter 0 0 n groups next → AreEntriesBefore n groups next []
+  pub entries_first : (next : Option (ℕ × ℕ)) → IsNextPairAfter 0 0 n groups next → AreEntriesBefore n groups next []
   entries_first next first = entries_to (Some (1, 1)) next [] less none entries_start
     where
       less : (i j : ℕ) → IsPairBefore i j 1 1 → IsBeforeNext next i j
       less i j b = go next first b
         where
-          go : (next : Option (ℕ × ℕ)) → IsNextAfter 0 0 n groups next → IsPairBefore i j 1 1 → IsBeforeNext next i j
+          go : (next : Option (ℕ × ℕ)) → IsNextPairAfter 0 0 n groups next → IsPairBefore i j 1 1 → IsBeforeNext next i j
           go None first b = tt
           go (Some p) first b = before_one p.0 p.1 first.is.0.pair b
             where
@@ -116,7 +116,7 @@ module _ (n : ℕ) (groups : List Group) where
       none : (i j : ℕ) → IsPair n i j → IsBeforeNext next i j → IsPairBefore i j 1 1 ⊎ AreTogether groups i j
       none i j pair b = inr (first.none_before i j pair (inl pair.0) b)
 
-  pub entries_more : (i j : ℕ) (next : Option (ℕ × ℕ)) (pairs : List Pair) (entry : Entry) → AreEntriesBefore n groups (Some (i, j)) pairs → HasLine n groups i j → IsEntry entry → IsNextAfter i j n groups next
+  pub entries_more : (i j : ℕ) (next : Option (ℕ × ℕ)) (pairs : List Pair) (entry : Entry) → AreEntriesBefore n groups (Some (i, j)) pairs → HasPairLine n groups i j → IsEntry entry → IsNextPairAfter i j n groups next
       → AreEntriesBefore n groups next (pairs ++ (record { first = i; second = j; entry = entry }) ∷ [])
   entries_more i j next pairs entry e has good after =
       entries_to (Some (i, suc j)) next (pairs ++ (record { first = i; second = j; entry = entry }) ∷ []) less none (entries_push i j pairs entry e has good)
@@ -130,7 +130,7 @@ module _ (n : ℕ) (groups : List Group) where
             | inr same ↦ subst (λ m. IsPairBefore m q k l) (sym same.0) (subst (λ m. IsPairBefore i m k l) (sym same.1) c)
           ]
 
-          go : (next : Option (ℕ × ℕ)) → IsNextAfter i j n groups next → IsBeforeNext next p q
+          go : (next : Option (ℕ × ℕ)) → IsNextPairAfter i j n groups next → IsBeforeNext next p q
           go None after = tt
           go (Some r) after = through r.0 r.1 after.is.1
 
@@ -146,11 +146,11 @@ module _ (n : ℕ) (groups : List Group) where
 
   -- ---- with their lines
 
-  pub lines_first : (next : Option (ℕ × ℕ)) (bytes : List ℕ) → IsNextAfter 0 0 n groups next → HasPairLines n groups next [] bytes bytes
+  pub lines_first : (next : Option (ℕ × ℕ)) (bytes : List ℕ) → IsNextPairAfter 0 0 n groups next → HasPairLines n groups next [] bytes bytes
   lines_first next bytes first = record { entries = entries_first next first; lines = []; of = tt; is = refl }
 
-  pub lines_more : (i j : ℕ) (next : Option (ℕ × ℕ)) (pairs : List Pair) (entry : Entry) (bytes rest left : List ℕ) → HasPairLines n groups (Some (i, j)) pairs bytes rest → HasLine n groups i j
-      → IsPairAt i j entry rest left → IsNextAfter i j n groups next → HasPairLines n groups next (pairs ++ (record { first = i; second = j; entry = entry }) ∷ []) bytes left
+  pub lines_more : (i j : ℕ) (next : Option (ℕ × ℕ)) (pairs : List Pair) (entry : Entry) (bytes rest left : List ℕ) → HasPairLines n groups (Some (i, j)) pairs bytes rest → HasPairLine n groups i j
+      → IsPairAt i j entry rest left → IsNextPairAfter i j n groups next → HasPairLines n groups next (pairs ++ (record { first = i; second = j; entry = entry }) ∷ []) bytes left
   lines_more i j next pairs entry bytes rest left w has at after = record {
     entries = entries_more i j next pairs entry w.entries has at.good after;
     lines = w.lines ++ at.line ∷ [];

@@ -15,7 +15,7 @@ use Rattle.profile.specs.text.Values.{WritesStamp, IsClockSeconds}
 use Rattle.profile.specs.checker.Certificates.{Claims, Pair, Group, Entry, End, Span, Res, IsEntry, IsEntryText, IsClaims, IsGroup, IsApart, IsPair, IsPairBefore, IsPairLine, IsGroupLine, AreInOrder, AreTogether, AreLines, groups_of, spelled, SpellsCertificate, BeginsWell, FirstWrong, IsSeriesAt, IsCertificateMade}
 use Rattle.profile.specs.events.Events.{Event}
 use Rattle.profile.specs.events.Confirmed.{Confirmed}
-use Rattle.clash_cert.specs.Chosen.{AreKept}
+use Rattle.clash_cert.specs.Chosen.{AreKeptFrom}
 use Rattle.clash_cert.specs.Texts.{Lacks, IsNoNumber}
 use Rattle.clash_cert.specs.Reading.{IsNoEntry, IsNoSpan, IsNoGroup}
 use Rattle.clash_cert.proofs.TextLemmas.{cancel, digits_model, same_lines, spelled-take, AreFree-take}
@@ -449,7 +449,7 @@ module _ (old : Claims) (was : Confirmed) (a b c : Event) (made : IsCertificateM
     | inr (place, number) ↦ ap (slice_get was.series) (ap (λ k. k - 1) number) ∙ ap (λ xs. slice_get xs 0) series ∙ sym (ap (slice_get (b ∷ c ∷ a ∷ [])) place) ∙ at
   ]
 
-  kept_turned : AreKept old numbers (b ∷ c ∷ a ∷ [])
+  kept_turned : AreKeptFrom old numbers (b ∷ c ∷ a ∷ [])
   kept_turned = record {
     was = was;
     made = made;

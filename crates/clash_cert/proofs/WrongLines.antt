@@ -11,7 +11,7 @@ use Rattle.profile.specs.text.Values.{WritesStamp}
 use Rattle.profile.specs.checker.Certificates.{Entry, Pair, Group, Claims, IsClaims, IsEntry, IsGroup, IsGroupLine, IsPairLine, IsPair, IsPairBefore, IsApart, AreInOrder, AreTogether, AreLines, groups_of, version_line, spelled, SpellsCertificate, BeginsWell, FirstWrong}
 use Rattle.clash_cert.specs.Texts.{Lacks, LacksLine, LacksCount}
 use Rattle.clash_cert.specs.Reading.{version_text, IsVersionAt, LacksVersion, LacksPair}
-use Rattle.clash_cert.specs.Walked.{HasLine, AreEntriesBefore, HasGroupLines, HasPairLines, AreGroupsOf, AreAllGroups, AreStatementsOf, BreaksGroups, BreaksPairs, BreaksInGroups, BreaksInPairs, LacksDone, HasMore, IsBroken, IsNextGroup, groups_in}
+use Rattle.clash_cert.specs.Walked.{HasPairLine, AreEntriesBefore, HasGroupLines, HasPairLines, AreGroupsOf, AreAllGroups, AreStatementsOf, BreaksGroups, BreaksPairs, BreaksInGroups, BreaksInPairs, LacksDone, HasMore, IsBroken, IsNextGroup, groups_in}
 use Rattle.clash_cert.specs.declared.reading.Version.{Version}
 use Rattle.clash_cert.specs.declared.reading.Version.TheVariants.{First, Second}
 use Rattle.clash_cert.proofs.TextLemmas.{AreFree, AreFree-append, AreFree-front, one_cut, one_line, one_rest, same_lines, cancel, spelled-take, spelled-append, breaks, line_at}

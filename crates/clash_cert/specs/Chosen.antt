@@ -7,7 +7,7 @@ use Rattle.profile.specs.events.Confirmed.{Confirmed, IsOneOf}
 use Rattle.profile.specs.checker.Instances.{IsClear}
 
 -- the old certificate is the one that is made for some calendar, whose series of a number is the one that is kept under it, and none is kept twice
-pub record AreKept (old : Claims) (kept : List (Option ℕ)) (all : List Event) : Type 0 where
+pub record AreKeptFrom (old : Claims) (kept : List (Option ℕ)) (all : List Event) : Type 0 where
   pub was : Confirmed
   pub made : IsCertificateMade was old
   pub counted : (i n : ℕ) → slice_get kept i ≡ Some (Some n) → 0 < n
@@ -16,7 +16,7 @@ pub record AreKept (old : Claims) (kept : List (Option ℕ)) (all : List Event) 
 
 -- and that calendar was clear
 abbrev pub AreKeptClear : Claims → List (Option ℕ) → List Event → Type 0
-AreKeptClear old kept all = (known : AreKept old kept all) × IsClear (IsOneOf known.was)
+AreKeptClear old kept all = (known : AreKeptFrom old kept all) × IsClear (IsOneOf known.was)
 
 -- the entry of two series of the calendar for which a certificate is made, by their numbers
 abbrev pub IsSaidOf : Claims → ℕ → ℕ → Entry → Type 0

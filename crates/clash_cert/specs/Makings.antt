@@ -71,8 +71,8 @@ IsChosenFor all (made.Clear c) = IsCertificateMade all c
 IsChosenFor all (made.Clash clash) = Unit {0}
 
 -- it names the two, the lesser first
-abbrev pub AreNamed : Instance → Instance → ℤ → Clash → Type 0
-AreNamed a b t clash = MatchBool (is_lt (instance_cmp b a)) (HasKeys b a t clash) (HasKeys a b t clash)
+abbrev pub AreBothNamed : Instance → Instance → ℤ → Clash → Type 0
+AreBothNamed a b t clash = MatchBool (is_lt (instance_cmp b a)) (HasKeys b a t clash) (HasKeys a b t clash)
 
 -- an instant is the later start of two
 abbrev pub IsLaterStart : Instance → Instance → ℤ → Type 0
@@ -80,4 +80,4 @@ IsLaterStart a b t = (a.start ≤ℤ t) × (b.start ≤ℤ t) × ((t ≡ a.start
 
 -- so it names them, with that
 abbrev pub IsNamedAs : Instance → Instance → Clash → Type 0
-IsNamedAs a b clash = AreNamed a b clash.instant clash × IsLaterStart a b clash.instant
+IsNamedAs a b clash = AreBothNamed a b clash.instant clash × IsLaterStart a b clash.instant

@@ -19,8 +19,8 @@ abbrev pub IsNoSpan : List ℕ → Type 0
 IsNoSpan words = (from : ℤ) (days : ℕ) → IsEntry (Span from days) → IsEntryText (Span from days) words → ⊥
 
 -- they are the written form of no stamp
-abbrev pub IsNoStamp : List ℕ → Type 0
-IsNoStamp octets = (t : ℤ) → WritesStamp octets t → ⊥
+abbrev pub IsNoWrittenStamp : List ℕ → Type 0
+IsNoWrittenStamp octets = (t : ℤ) → WritesStamp octets t → ⊥
 
 -- ---- one line
 

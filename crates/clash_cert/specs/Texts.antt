@@ -58,12 +58,12 @@ groups_said None = None
 groups_said (Some groups) = Some (map group_said groups.items)
 
 -- what a certificate with these parts says
-abbrev pub claims_said : ℕ → ℕ → Option (Vec Group Global) → List Pair → said.Claims
-claims_said singles series groups pairs = record { singles = singles; series = series; groups = groups_said groups; pairs = map pair_said pairs }
+abbrev pub claims_of_text : ℕ → ℕ → Option (Vec Group Global) → List Pair → said.Claims
+claims_of_text singles series groups pairs = record { singles = singles; series = series; groups = groups_said groups; pairs = map pair_said pairs }
 
 -- the pairs are in order
-abbrev pub AreSorted : List said.Pair → Type 0
-AreSorted = AllPairs (λ p q. IsPairBefore p.first p.second q.first q.second)
+abbrev pub ArePairsSorted : List said.Pair → Type 0
+ArePairsSorted = AllPairs (λ p q. IsPairBefore p.first p.second q.first q.second)
 
 -- the entry of two series; END where no pair is theirs
 pub data IsEntryAmong (pairs : List said.Pair) (i j : ℕ) : said.Entry → Type 0 where

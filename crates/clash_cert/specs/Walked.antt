@@ -47,7 +47,7 @@ abbrev pub is_pair_before : ℕ → ℕ → ℕ → ℕ → Bool
 is_pair_before i j first second = ltb i first || ((i == first) && ltb j second)
 
 -- a pair of n series that aren't both in one group
-pub record HasLine (n : ℕ) (groups : List Group) (i j : ℕ) : Type 0 where
+pub record HasPairLine (n : ℕ) (groups : List Group) (i j : ℕ) : Type 0 where
   pub pair : IsPair n i j
   pub apart : AreTogether groups i j → ⊥
 
@@ -58,12 +58,12 @@ IsBeforeNext (Some p) i j = IsPairBefore i j p.0 p.1
 
 -- of the pairs of which this holds it is the first that has a line
 pub record IsNextOf (From : ℕ → ℕ → Type 0) (n : ℕ) (groups : List Group) (next : Option (ℕ × ℕ)) : Type 0 where
-  pub is : IfSome next (λ p. HasLine n groups p.0 p.1 × From p.0 p.1)
+  pub is : IfSome next (λ p. HasPairLine n groups p.0 p.1 × From p.0 p.1)
   pub none_before : (i j : ℕ) → IsPair n i j → From i j → IsBeforeNext next i j → AreTogether groups i j
 
 -- of those after a pair
-abbrev pub IsNextAfter : ℕ → ℕ → ℕ → List Group → Option (ℕ × ℕ) → Type 0
-IsNextAfter i j = IsNextOf (IsPairBefore i j)
+abbrev pub IsNextPairAfter : ℕ → ℕ → ℕ → List Group → Option (ℕ × ℕ) → Type 0
+IsNextPairAfter i j = IsNextOf (IsPairBefore i j)
 
 -- a pair isn't before another
 abbrev pub IsPairFrom : ℕ → ℕ → ℕ → ℕ → Type 0
@@ -170,7 +170,7 @@ pub record BreaksGroups (n : ℕ) (bytes rest : List ℕ) : Type 0 where
 pub record BreaksPairs (n : ℕ) (groups : List Group) (bytes rest : List ℕ) : Type 0 where
   pub first : ℕ
   pub second : ℕ
-  pub has : HasLine n groups first second
+  pub has : HasPairLine n groups first second
   pub pairs : List Pair
   pub lines : HasPairLines n groups (Some (first, second)) pairs bytes rest
   pub lacks : LacksPair first second rest

@@ -5,7 +5,7 @@
 ghost use Rattle.std.specs.Prelude.{ℕ, List, ◌≡◌, ◌↔◌, ◌<◌, AllPairs, Contains, map, is_some, IfOk, IfErr, IsTrue, OnOk, OnErr};
 ghost use Rattle.profile.specs.checker.Certificates.{Claims, IsClaims, IsEntry, IsEntryOf, IsPair, FirstWrong, SpellsCertificate, groups_of};
 ghost use Rattle.ical_values.specs.Written.{Appends};
-ghost use Rattle.clash_cert.specs.Texts.{IsCertFault, AreSorted, IsEntryAmong, entry_said, group_said, pair_said, claims_said};
+ghost use Rattle.clash_cert.specs.Texts.{IsCertFault, ArePairsSorted, IsEntryAmong, entry_said, group_said, pair_said, claims_of_text};
 ghost use Rattle.clash_cert.specs.Walked.{is_pair_before};
 ghost use Rattle.clash_cert.specs.Chosen.{IsSaidOf};
 
@@ -65,13 +65,13 @@ pub struct Certificate {
 
 impl Model for Certificate {
     ghost use Rattle.profile.specs.checker.Certificates.{Claims, IsClaims};
-    ghost use Rattle.clash_cert.specs.Texts.{claims_said};
+    ghost use Rattle.clash_cert.specs.Texts.{claims_of_text};
 
     ghost Value = { Claims };
 
     ghost view = { λ c. claims_said c.singles c.series c.groups c.pairs.items };
 
-    ghost invariant = { λ c. IsClaims (claims_said c.singles c.series c.groups c.pairs.items) };
+    ghost invariant = { λ c. IsClaims (claims_of_text c.singles c.series c.groups c.pairs.items) };
 }
 
 impl Certificate {
@@ -82,8 +82,8 @@ impl Certificate {
         groups: Option<Vec<Group>>,
         pairs: Vec<Pair>,
     ) -> Certificate
-        requires { IsClaims (claims_said singles series groups pairs.items) }
-        ensures { result ≡ claims_said singles series groups pairs.items }
+        requires { IsClaims (claims_of_text singles series groups pairs.items) }
+        ensures { result ≡ claims_of_text singles series groups pairs.items }
     {
         Certificate {
             singles,
@@ -217,7 +217,7 @@ fn has_both(group: &Group, i: u64, j: u64) -> bool
 
 /// The entry of two series, END where they have none.
 fn entry_at(pairs: &[Pair], first: u64, second: u64) -> Entry
-    requires { AreSorted (map pair_said pairs.now) }
+    requires { ArePairsSorted (map pair_said pairs.now) }
     ensures { IsEntryAmong (map pair_said pairs.now) first second (entry_said result) }
 {
     let place = pairs.partition_point(|pair| comes_before(pair, first, second));

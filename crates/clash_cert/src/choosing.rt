@@ -6,7 +6,7 @@ ghost use Rattle.profile.specs.checker.Certificates.{SpellsCertificate, Certific
 ghost use Rattle.profile.specs.events.Confirmed.{Confirmed, IsOneOf};
 ghost use Rattle.cal_events.specs.Series.{series_said};
 ghost use Rattle.clash_cert.specs.Texts.{entry_said, pair_said};
-ghost use Rattle.clash_cert.specs.Chosen.{AreKept, IsEntryAt, ArePairsMade};
+ghost use Rattle.clash_cert.specs.Chosen.{AreKeptFrom, IsEntryAt, ArePairsMade};
 
 use crate::certificate::{Certificate, Entry, Pair};
 use cal_events::{Calendar, Series};
@@ -36,7 +36,7 @@ pub fn certificate_from(
     singles: u64,
     series: &[Series],
 ) -> Result<Certificate, AllocError>
-    ensures { IfOk result (λ c. (all : Confirmed) → singles ≡ length all.singles → map series_said series.now ≡ all.series → AreKept old.now kept.now all.series → IsCertificateMade all c) }
+    ensures { IfOk result (λ c. (all : Confirmed) → singles ≡ length all.singles → map series_said series.now ≡ all.series → AreKeptFrom old.now kept.now all.series → IsCertificateMade all c) }
 {
     let pairs = pairs_of(alloc, old, kept, series)?;
     Ok(Certificate::of(singles, series.len() as u64, None, pairs))
@@ -49,7 +49,7 @@ fn pairs_of(
     kept: &[Option<u32>],
     series: &[Series],
 ) -> Result<Vec<Pair>, AllocError>
-    ensures { IfOk result (λ pairs. ArePairsMade (AreKept old.now kept.now (map series_said series.now)) (map series_said series.now) (length series.now) (length series.now) (map pair_said pairs.items)) }
+    ensures { IfOk result (λ pairs. ArePairsMade (AreKeptFrom old.now kept.now (map series_said series.now)) (map series_said series.now) (length series.now) (length series.now) (map pair_said pairs.items)) }
 {
     let mut pairs = Vec::new(alloc);
     for i in 0..series.len() {
@@ -67,8 +67,8 @@ fn push_row(
     i: usize,
 ) -> Result<(), AllocError>
     requires within { i < length series.now }
-    requires made { ArePairsMade (AreKept old.now kept.now (map series_said series.now)) (map series_said series.now) i i (map pair_said pairs.old.items) }
-    ensures { OnOk result (ArePairsMade (AreKept old.now kept.now (map series_said series.now)) (map series_said series.now) (i + 1) (i + 1) (map pair_said pairs.new.items)) }
+    requires made { ArePairsMade (AreKeptFrom old.now kept.now (map series_said series.now)) (map series_said series.now) i i (map pair_said pairs.old.items) }
+    ensures { OnOk result (ArePairsMade (AreKeptFrom old.now kept.now (map series_said series.now)) (map series_said series.now) (i + 1) (i + 1) (map pair_said pairs.new.items)) }
 {
     for j in i..series.len() {
         let entry = entry_at(*pairs.allocator(), old, kept, series, i, j)?;
@@ -92,7 +92,7 @@ fn entry_at(
 ) -> Result<Entry, AllocError>
     requires { (i < length series.now) × (j < length series.now) }
     ensures good { IfOk result (λ entry. IsEntry (entry_said entry)) }
-    ensures made { IfOk result (λ entry. IsEntryAt (AreKept old.now kept.now (map series_said series.now)) (map series_said series.now) i j (entry_said entry)) }
+    ensures made { IfOk result (λ entry. IsEntryAt (AreKeptFrom old.now kept.now (map series_said series.now)) (map series_said series.now) i j (entry_said entry)) }
 {
     if let (Some(first), Some(second)) = (number_at(kept, i), number_at(kept, j)) {
         return Ok(old.between(u64::from(first), u64::from(second)));

@@ -3,7 +3,7 @@ ghost use Rattle.std.specs.Prelude.{◌↔◌, IfOk};
 ghost use Rattle.profile.specs.checker.Instances.{AreClear};
 ghost use Rattle.profile.specs.events.Confirmed.{IsOneOf};
 ghost use Rattle.clash_cert.specs.Makings.{IsCertificate, IsChosenFor, IsFirstMade, IsMadeFor};
-ghost use Rattle.clash_cert.specs.Chosen.{AreKept, AreKeptClear};
+ghost use Rattle.clash_cert.specs.Chosen.{AreKeptFrom, AreKeptClear};
 
 use crate::certificate::Certificate;
 use crate::choosing::certificate_from;
@@ -23,7 +23,7 @@ pub fn extend(
 ) -> Result<Made, AllocError>
     ensures made { IfOk result (λ made. AreKeptClear old.now kept.now calendar.now.series → IsMadeFor calendar.now made) }
     ensures clear { IfOk result (λ made. AreKeptClear old.now kept.now calendar.now.series → IsCertificate made ↔ AreClear (IsOneOf calendar.now) (IsOneOf calendar.now)) }
-    ensures chosen { IfOk result (λ made. AreKept old.now kept.now calendar.now.series → IsChosenFor calendar.now made) }
+    ensures chosen { IfOk result (λ made. AreKeptFrom old.now kept.now calendar.now.series → IsChosenFor calendar.now made) }
     ensures first { IfOk result (IsFirstMade calendar.now) }
 {
     if let Some(clash) = clash_in(alloc, calendar, kept)? {

@@ -3,7 +3,7 @@
 ghost use Rattle.std.specs.Prelude.{ℕ, List, ◌≡◌, ◌↔◌, ◌<◌, ◌≤◌, ◌++◌, [], ◌∷◌, AllPairs, IsTrue, MatchOption, OnOk, is_some, length, suc};
 ghost use Rattle.std.specs.List.{list_any};
 ghost use Rattle.profile.specs.checker.Certificates.{Group, IsPair};
-ghost use Rattle.clash_cert.specs.Walked.{AreApart, IsApartIn, IsNextAfter, IsNextFrom, IsOfGroups, IsRunEnd, member_of};
+ghost use Rattle.clash_cert.specs.Walked.{AreApart, IsApartIn, IsNextPairAfter, IsNextFrom, IsOfGroups, IsRunEnd, member_of};
 
 use std::alloc::{AllocError, Global};
 use std::collections::BTreeMap;
@@ -70,14 +70,14 @@ impl Members {
 
     /// The first pair of so many series that has a line.
     pub(crate) fn first_pair(&self, series: u64) -> Option<(u64, u64)>
-        ensures { (groups : List Group) → IsOfGroups groups self.now → IsNextAfter 0 0 series groups result }
+        ensures { (groups : List Group) → IsOfGroups groups self.now → IsNextPairAfter 0 0 series groups result }
     {
         self.pair_from(series, 1, 1)
     }
 
     /// The first that has one after a pair.
     pub(crate) fn pair_after(&self, series: u64, i: u64, j: u64) -> Option<(u64, u64)>
-        ensures { (groups : List Group) → IsOfGroups groups self.now → IsPair series i j → IsNextAfter i j series groups result }
+        ensures { (groups : List Group) → IsOfGroups groups self.now → IsPair series i j → IsNextPairAfter i j series groups result }
     {
         if j < series {
             return self.pair_from(series, i, j + 1);

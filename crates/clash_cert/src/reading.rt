@@ -6,7 +6,7 @@ ghost use Rattle.profile.specs.text.Values.{WritesStamp};
 ghost use Rattle.profile.specs.checker.Certificates.{AreInOrder, IsEntry, IsEntryText, Span};
 ghost use Rattle.profile.specs.checker.Certificates as said;
 ghost use Rattle.clash_cert.specs.Texts.{Lacks, LacksLine, LacksCount, LacksLf, IsCutAtLf, IsNoNumber, entry_said, group_said, groups_said, pair_said};
-ghost use Rattle.clash_cert.specs.Reading.{pair_names, IsNoEntry, IsNoSpan, IsNoStamp, IsVersionAt, LacksVersion, IsGroupAt, LacksGroup, IsGroupOfWords, IsNoGroup, AreNumbers, AreNoNumbers, IsNumberAt, LacksNumber, IsCutAtSpace, ascend, IsPairAt, LacksPair};
+ghost use Rattle.clash_cert.specs.Reading.{pair_names, IsNoEntry, IsNoSpan, IsNoWrittenStamp, IsVersionAt, LacksVersion, IsGroupAt, LacksGroup, IsGroupOfWords, IsNoGroup, AreNumbers, AreNoNumbers, IsNumberAt, LacksNumber, IsCutAtSpace, ascend, IsPairAt, LacksPair};
 ghost use Rattle.clash_cert.specs.Walked.{AreGroupsAt, ArePairsAt, AreStatementsOf, AreVersionGroups, BreaksGroups, BreaksInGroups, BreaksPairs, IsAfterLast, IsBroken, IsNextGroup, IsOfGroups};
 ghost use Rattle.clash_cert.specs.Stops.{StopsAt};
 
@@ -353,7 +353,7 @@ fn span(from: Stamp, days: u64) -> Entry
 
 /// The stamp that is written so.
 fn stamp_of(octets: &[u8]) -> Option<Stamp>
-    ensures { MatchOption result (IsNoStamp octets.now) (WritesStamp octets.now) }
+    ensures { MatchOption result (IsNoWrittenStamp octets.now) (WritesStamp octets.now) }
 {
     let text = str::from_utf8(octets).ok()?;
     let stamp = Stamp::read(text).ok()?;

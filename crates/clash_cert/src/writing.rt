@@ -2,7 +2,7 @@
 ghost use Rattle.std.specs.Prelude.{ℕ, List, ◌≡◌, ◌++◌, [], ◌∷◌, take, length, map, unwrap_or, codes, decimal, All, OnOk, OnErr};
 ghost use Rattle.profile.specs.checker.Certificates.{IsClaims, IsEntry, IsEntryText, IsGroupLine, IsPairLine, SpellsCertificate, numbers_text, spelled, version_line};
 ghost use Rattle.ical_values.specs.Written.{Appends};
-ghost use Rattle.clash_cert.specs.Texts.{claims_said, entry_said, group_said, groups_said, pair_said};
+ghost use Rattle.clash_cert.specs.Texts.{claims_of_text, entry_said, group_said, groups_said, pair_said};
 ghost use Rattle.clash_cert.specs.Reading.{SpellsGroups, SpellsPairs};
 
 use crate::certificate::{Entry, Pair};
@@ -18,8 +18,8 @@ pub(crate) fn write_text(
     groups: &Option<Vec<Group>>,
     pairs: &[Pair],
 ) -> Result<(), AllocError>
-    requires { IsClaims (claims_said singles series groups.now pairs.now) }
-    ensures ok { OnOk result (Appends out.old.items out.new.items (λ text. SpellsCertificate text (claims_said singles series groups.now pairs.now))) }
+    requires { IsClaims (claims_of_text singles series groups.now pairs.now) }
+    ensures ok { OnOk result (Appends out.old.items out.new.items (λ text. SpellsCertificate text (claims_of_text singles series groups.now pairs.now))) }
     ensures err { OnErr result (take (length out.old.items) out.new.items ≡ out.old.items) }
 {
     write_head(out, version_line(groups), singles, series)?;

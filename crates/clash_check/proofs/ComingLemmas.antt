@@ -17,7 +17,7 @@ use Rattle.cal_events.proofs.shared_lemmas.InOneOrder.{later, none_in, first_or_
 use Rattle.cal_events.proofs.shared_lemmas.Overlaps.{abs_is}
 use Rattle.clash_check.specs.declared.group_sweep.Next.{Next}
 use Rattle.clash_check.specs.declared.walk.Walk.{Walk}
-use Rattle.clash_check.specs.Comings.{next_cmp, item_of, span_at, IsPut}
+use Rattle.clash_check.specs.Comings.{next_cmp, item_of, span_of_next, IsPutBack}
 
 -- ---- one of several
 
@@ -74,13 +74,13 @@ none_counted k (h ∷ hs) none =
 
 -- of each of these series its next instance is there, once
 pub record IsHeapOf (members : List ℕ) (walk : ℕ → Walk) (hs : List (Reverse Next)) : Type 0 where
-  pub of : (h : Reverse Next) → Contains hs h → Contains members h.0.series × ((walk h.0.series).next ≡ Some (span_at h))
+  pub of : (h : Reverse Next) → Contains hs h → Contains members h.0.series × ((walk h.0.series).next ≡ Some (span_of_next h))
   pub each : (k : ℕ) (x : Span) → Contains members k → (walk k).next ≡ Some x → Contains hs (item_of k x)
   pub once : (k : ℕ) → count_of k hs ≤ 1
 
 -- of each but one
 pub record IsHeapBut (members : List ℕ) (but : ℕ) (walk : ℕ → Walk) (hs : List (Reverse Next)) : Type 0 where
-  pub of : (h : Reverse Next) → Contains hs h → Contains members h.0.series × (h.0.series ≢ but) × ((walk h.0.series).next ≡ Some (span_at h))
+  pub of : (h : Reverse Next) → Contains hs h → Contains members h.0.series × (h.0.series ≢ but) × ((walk h.0.series).next ≡ Some (span_of_next h))
   pub each : (k : ℕ) (x : Span) → Contains members k → k ≢ but → (walk k).next ≡ Some x → Contains hs (item_of k x)
   pub once : (k : ℕ) → count_of k hs ≤ 1
 
@@ -130,7 +130,7 @@ but_popped members walk hs rest h moved heap = record {
     ]
 
 -- and then its next one is put there
-pub put_there : (members : List ℕ) (k : ℕ) (walk : ℕ → Walk) (hs new : List (Reverse Next)) (w : Walk) → Contains members k → IsHeapBut members k walk hs → IsPut k w.next hs new
+pub put_there : (members : List ℕ) (k : ℕ) (walk : ℕ → Walk) (hs new : List (Reverse Next)) (w : Walk) → Contains members k → IsHeapBut members k walk hs → IsPutBack k w.next hs new
     → IsHeapOf members (with k w walk) new
 put_there members k walk hs new w member heap put = go w.next refl put
   where
@@ -140,10 +140,10 @@ put_there members k walk hs new w member heap put = go w.next refl put
     others : (j : ℕ) → j ≢ k → (with k w walk j).next ≡ (walk j).next
     others j differ = ap (λ (v : Walk). v.next) (with_other k j w walk differ)
 
-    old : (h : Reverse Next) → Contains hs h → Contains members h.0.series × ((with k w walk h.0.series).next ≡ Some (span_at h))
+    old : (h : Reverse Next) → Contains hs h → Contains members h.0.series × ((with k w walk h.0.series).next ≡ Some (span_of_next h))
     old h c = let o = heap.of h c in (o.0, others h.0.series o.1 ∙ o.2)
 
-    go : (o : Option Span) → w.next ≡ o → IsPut k o hs new → IsHeapOf members (with k w walk) new
+    go : (o : Option Span) → w.next ≡ o → IsPutBack k o hs new → IsHeapOf members (with k w walk) new
     go None e put = record {
       of = λ h c. old h (subst (λ (l : List (Reverse Next)). Contains l h) put c);
       each = λ j x c is. subst (λ (l : List (Reverse Next)). Contains l (item_of j x)) (sym put) (elim (cases_eq j k) [
@@ -159,7 +159,7 @@ put_there members k walk hs new w member heap put = go w.next refl put
       of = λ h c. elim (first_or_later (item_of k y) h hs (Contains-permutation new (item_of k y ∷ hs) h (IsPermutation-sym (item_of k y ∷ hs) new put) c)) [
         | inl is ↦ (
           subst (λ (x : Reverse Next). Contains members x.0.series) is member,
-          subst (λ (x : Reverse Next). (with k w walk x.0.series).next ≡ Some (span_at x)) is (own ∙ e),
+          subst (λ (x : Reverse Next). (with k w walk x.0.series).next ≡ Some (span_of_next x)) is (own ∙ e),
         )
         | inr there ↦ old h there
       ];
@@ -205,7 +205,7 @@ far bound h = unsigned_abs (bound -ℤ h.0.start)
 abbrev pub far_in : ℤ → List (Reverse Next) → ℕ
 far_in bound hs = sum_by (far bound) hs
 
-pub nearer : (bound : ℤ) (h : Reverse Next) (hs rest new : List (Reverse Next)) (found : Option Span) → IsPermutation hs (h ∷ rest) → IsPut h.0.series found rest new → h.0.start <ℤ bound
+pub nearer : (bound : ℤ) (h : Reverse Next) (hs rest new : List (Reverse Next)) (found : Option Span) → IsPermutation hs (h ∷ rest) → IsPutBack h.0.series found rest new → h.0.start <ℤ bound
     → IfSome found (λ x. (h.0.start <ℤ x.start) × (x.start <ℤ bound)) → far_in bound new < far_in bound hs
 nearer bound h hs rest new None popped put before further =
     let n = sum_by_popped (far bound) h hs rest popped in

@@ -13,7 +13,7 @@ use Rattle.cal_events.specs.declared.sweep.Span.{Span}
 use Rattle.cal_events.proofs.shared_lemmas.InOneOrder.{later, none_in, head_pairs, tail_pairs}
 use Rattle.clash_check.specs.Counted.{AreBelow}
 use Rattle.clash_check.specs.Draws.{one_if}
-use Rattle.clash_check.specs.Walks.{IsBelow, IsBehind, IsLastBehind, IsWalkOf, BeginsWalk, GoesPast, walk_place}
+use Rattle.clash_check.specs.Walks.{IsBelow, IsWalkedPast, IsLastWalkedPast, IsWalkThrough, BeginsAtFirst, PassesOne, place_of_walk}
 use Rattle.clash_check.specs.declared.walk.Walk.{Walk}
 
 abbrev pub before : ℤ → List Instance → ℕ
@@ -81,7 +81,7 @@ count_fewer t i (x ∷ xs) l (suc k, w, e) =
 
 -- how many were drawn for a walk: those behind, and its next one
 abbrev pub drawn_for : ℤ → Option Span → List Instance → ℕ
-drawn_for bound next xs = before (walk_place bound next) xs + one_if next
+drawn_for bound next xs = before (place_of_walk bound next) xs + one_if next
 
 module _ (series : Event) (known : AreKnownByStart series) (bound : ℤ) where
   -- one that comes before another starts earlier
@@ -118,36 +118,36 @@ module _ (series : Event) (known : AreKnownByStart series) (bound : ℤ) where
     is_below : (y : Instance) → Contains xs y → StartsBelow series bound y
     is_below y c = All-contains (StartsBelow series bound) xs y are.each c
 
-    is_behind : (place : ℤ) (y : Instance) → Contains xs y → y.start <ℤ place → IsBehind (IsBelow series bound) place y.start y.end
+    is_behind : (place : ℤ) (y : Instance) → Contains xs y → y.start <ℤ place → IsWalkedPast (IsBelow series bound) place y.start y.end
     is_behind place y c l = let own = is_below y c in (((y, own.0, refl, refl), own.1), l)
 
     module _ (Coming : ℤ → ℤ → Type 0) (walk : Walk) where
-      pub first_counted : BeginsWalk (IsBelow series bound) Coming bound walk → drawn_for bound walk.next xs ≡ one_if walk.next
+      pub first_counted : BeginsAtFirst (IsBelow series bound) Coming bound walk → drawn_for bound walk.next xs ≡ one_if walk.next
       first_counted b =
-          let none = count_none (walk_place bound walk.next) xs
-          (λ y c. by_lt_z y.start (walk_place bound walk.next) (λ l. absurd (subst (IsLastBehind (IsBelow series bound) (walk_place bound walk.next)) b.none b.is_walk.last y.start y.end (is_behind _ y c l))) (λ l. l)) in
+          let none = count_none (place_of_walk bound walk.next) xs
+          (λ y c. by_lt_z y.start (place_of_walk bound walk.next) (λ l. absurd (subst (IsLastWalkedPast (IsBelow series bound) (place_of_walk bound walk.next)) b.none b.is_walk.last y.start y.end (is_behind _ y c l))) (λ l. l)) in
           ap (λ n. n + one_if walk.next) none ∙ omega arith
 
-      module _ (is : IsWalkOf (IsBelow series bound) Coming bound walk) where
+      module _ (is : IsWalkThrough (IsBelow series bound) Coming bound walk) where
         next_in : (next : Span) → walk.next ≡ Some next → (y : Instance) × Contains xs y × (y.start ≡ next.start)
         next_in next e =
             let ((b, it, s, f), l) = subst (λ (o : Option Span). IfSome o (λ x. IsBelow series bound x.start x.end)) e is.next in
             (b, are.all b (it, omega (arith, ints, l, s)), s)
 
-        pub past_counted : (Left : ℤ → ℤ → Type 0) (new : Walk) (next : Span) → walk.next ≡ Some next → GoesPast (IsBelow series bound) Left bound next walk new
+        pub past_counted : (Left : ℤ → ℤ → Type 0) (new : Walk) (next : Span) → walk.next ≡ Some next → PassesOne (IsBelow series bound) Left bound next walk new
             → drawn_for bound new.next xs ≡ drawn_for bound walk.next xs + one_if new.next
         past_counted Left new next e g =
             let (i, there, s) = next_in next e in
-            let at : walk_place bound walk.next ≡ next.start = ap (walk_place bound) e in
+            let at : place_of_walk bound walk.next ≡ next.start = ap (place_of_walk bound) e in
             let one : one_if walk.next ≡ 1 = ap (λ (o : Option Span). one_if o) e in
-            let more = count_past (walk_place bound walk.next) (walk_place bound new.next) i xs (s ∙ sym at) g.further none is_below are.ordered there in
+            let more = count_past (place_of_walk bound walk.next) (place_of_walk bound new.next) i xs (s ∙ sym at) g.further none is_below are.ordered there in
             omega (arith, more, one)
           where
-            none : (b : Instance) → StartsBelow series bound b → walk_place bound walk.next <ℤ b.start → walk_place bound new.next ≤ℤ b.start
-            none b own l = by_lt_z b.start (walk_place bound new.next)
+            none : (b : Instance) → StartsBelow series bound b → place_of_walk bound walk.next <ℤ b.start → place_of_walk bound new.next ≤ℤ b.start
+            none b own l = by_lt_z b.start (place_of_walk bound new.next)
                 (λ less. elim (g.one b.start b.end (((b, own.0, refl, refl), own.1), less)) [
                   | inl old ↦ absurd (omega (arith, ints, l, old.1))
-                  | inr same ↦ let at : walk_place bound walk.next ≡ next.start = ap (walk_place bound) e in absurd (omega (arith, ints, l, same.0, at))
+                  | inr same ↦ let at : place_of_walk bound walk.next ≡ next.start = ap (place_of_walk bound) e in absurd (omega (arith, ints, l, same.0, at))
                 ])
                 (λ most. most)
 
@@ -168,6 +168,6 @@ module _ (series : Event) (known : AreKnownByStart series) (bound : ℤ) where
 
         pub one_counted : (l : Span) → walk.last ≡ Some l → 1 ≤ drawn_for bound walk.next xs
         one_counted l e =
-            let (((b, it, s, f), below), less) = (subst (IsLastBehind (IsBelow series bound) (walk_place bound walk.next)) e is.last).0 in
-            let n = count_some (walk_place bound walk.next) b xs (omega (arith, ints, s, less)) (are.all b (it, omega (arith, ints, s, below))) in
+            let (((b, it, s, f), below), less) = (subst (IsLastWalkedPast (IsBelow series bound) (place_of_walk bound walk.next)) e is.last).0 in
+            let n = count_some (place_of_walk bound walk.next) b xs (omega (arith, ints, s, less)) (are.all b (it, omega (arith, ints, s, below))) in
             omega (arith, n)

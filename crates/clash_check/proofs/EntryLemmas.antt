@@ -13,7 +13,7 @@ use Rattle.clash_cert.proofs.MakingLemmas.{keys_apart}
 use Rattle.clash_check.specs.Counted.{AreBelow, IsComparedCount, IsEntryCount, pair_count}
 use Rattle.clash_check.specs.Draws.{IsDrawable, drawn_more}
 use Rattle.clash_check.specs.Entries.{IsMore, IsSomeMore, HasEntryCompared, IsDrawn, IsEntryDrawn}
-use Rattle.clash_check.specs.Sweeps.{HaveShared, AreApart, HasShared, IsApart, AreDrawn}
+use Rattle.clash_check.specs.Sweeps.{HaveShared, AreApart, HasShared, IsApart, IsCountDrawn}
 use Rattle.clash_check.proofs.PeriodLemmas.{one_bound}
 use Rattle.clash_check.proofs.SweepLemmas.{series_there, known_at}
 
@@ -64,15 +64,15 @@ one_place i j e = grind (arith, nat_tests)
 pub two_places : (i j : ℕ) → (i ≡ j → ⊥) → (i == j) ≡ false
 two_places i j f = grind (arith, nat_tests)
 
-pub pair_drawn : (i j old new m n : ℕ) → i ≢ j → (r : Bool) → AreDrawn r old new (m + n) → AreDrawn (not (not r)) old new (pair_count i j m n)
-pair_drawn i j old new m n differ r h = subst (λ v. AreDrawn v old new (pair_count i j m n)) (sym (twice r)) (subst (AreDrawn r old new) (sym (ap (λ (v : Bool). cond v m (m + n)) (two_places i j differ))) h)
+pub pair_drawn : (i j old new m n : ℕ) → i ≢ j → (r : Bool) → IsCountDrawn r old new (m + n) → IsCountDrawn (not (not r)) old new (pair_count i j m n)
+pair_drawn i j old new m n differ r h = subst (λ v. IsCountDrawn v old new (pair_count i j m n)) (sym (twice r)) (subst (IsCountDrawn r old new) (sym (ap (λ (v : Bool). cond v m (m + n)) (two_places i j differ))) h)
   where
     twice : (v : Bool) → not (not v) ≡ v
     twice true = refl
     twice false = refl
 
-pub alone_drawn : (i j old new m n : ℕ) → i ≡ j → (r : Bool) → AreDrawn r old new m → AreDrawn (not (not r)) old new (pair_count i j m n)
-alone_drawn i j old new m n same r h = subst (λ v. AreDrawn v old new (pair_count i j m n)) (sym (twice r)) (subst (AreDrawn r old new) (sym (ap (λ (v : Bool). cond v m (m + n)) (one_place i j same))) h)
+pub alone_drawn : (i j old new m n : ℕ) → i ≡ j → (r : Bool) → IsCountDrawn r old new m → IsCountDrawn (not (not r)) old new (pair_count i j m n)
+alone_drawn i j old new m n same r h = subst (λ v. IsCountDrawn v old new (pair_count i j m n)) (sym (twice r)) (subst (IsCountDrawn r old new) (sym (ap (λ (v : Bool). cond v m (m + n)) (one_place i j same))) h)
   where
     twice : (v : Bool) → not (not v) ≡ v
     twice true = refl
@@ -84,11 +84,11 @@ alone_drawn i j old new m n same r h = subst (λ v. AreDrawn v old new (pair_cou
 drawn_is_more : (old new n : ℕ) → new ≡ drawn_more old n → IsMore old new n
 drawn_is_more old new n e = omega (arith, e)
 
-some_is_more : (old new most : ℕ) → AreDrawn true old new most → IsSomeMore old new most
+some_is_more : (old new most : ℕ) → IsCountDrawn true old new most → IsSomeMore old new most
 some_is_more old new most (n, some, few, is) = (n, some, few, drawn_is_more old new n is)
 
 -- of what is compared
-pub compared_drawn : (Compared : Type 0) → Compared → (r : Bool) (old new n : ℕ) → AreDrawn (not r) old new n → IsDrawn Compared r old new n
+pub compared_drawn : (Compared : Type 0) → Compared → (r : Bool) (old new n : ℕ) → IsCountDrawn (not r) old new n → IsDrawn Compared r old new n
 compared_drawn Compared compared true old new n h = drawn_is_more old new n h
 compared_drawn Compared compared false old new n h = inl (compared, some_is_more old new n h)
 
@@ -100,12 +100,12 @@ none_drawn Compared none old new n e = inr (none, omega (arith, e))
 abbrev pub AreBothDrawn : Confirmed → ℕ → ℕ → ℤ → Bool → ℕ → ℕ → Type 0
 AreBothDrawn all i j bound r old new =
     (a b : Event) → IsSeriesAt all i a → IsSeriesAt all j b → (xs ys : List SaidInstance) → AreBelow a bound xs → AreBelow b bound ys
-    → AreDrawn (not r) old new (pair_count i j (length xs) (length ys))
+    → IsCountDrawn (not r) old new (pair_count i j (length xs) (length ys))
 
 both_drawn : (all : Confirmed) (i j : ℕ) (entry : Entry) (bound : ℤ) (r : Bool) (old new : ℕ) → AreBothDrawn all i j bound r old new
-    → (n : ℕ) (c : IsComparedCount all i j entry n) → c.bound ≡ bound → AreDrawn (not r) old new n
+    → (n : ℕ) (c : IsComparedCount all i j entry n) → c.bound ≡ bound → IsCountDrawn (not r) old new n
 both_drawn all i j entry bound r old new drawn n c same =
-    subst (AreDrawn (not r) old new) (sym c.count)
+    subst (IsCountDrawn (not r) old new) (sym c.count)
     (drawn c.a c.b c.at_first c.at_second c.xs c.ys (subst (λ (t : ℤ). AreBelow c.a t c.xs) same c.of_first) (subst (λ (t : ℤ). AreBelow c.b t c.ys) same c.of_second))
 
 -- ---- END

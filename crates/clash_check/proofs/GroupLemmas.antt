@@ -11,7 +11,7 @@ use Rattle.profile.specs.events.Confirmed.{Confirmed}
 use Rattle.profile.specs.events.Spans.{IsSpan, IsBoundOf, HaveClash}
 use Rattle.clash_check.specs.Counted.{AreAllBelow, IsStatementCount}
 use Rattle.clash_check.specs.Entries.{HasCompared, IsStatementDrawn}
-use Rattle.clash_check.specs.Sweeps.{HaveNoClash, AreDrawn}
+use Rattle.clash_check.specs.Sweeps.{HaveNoClash, IsCountDrawn}
 use Rattle.clash_check.proofs.EntryLemmas.{compared_drawn, none_drawn}
 use Rattle.clash_check.proofs.PeriodLemmas.{one_bound}
 use Rattle.clash_check.proofs.PlacedLemmas.{series_of}
@@ -57,13 +57,13 @@ module _ (all : Confirmed) (group : Group) where
           }
         ] h
 
-    pub group_drawn : (old new : ℕ) → OfThem (λ those. (lists : List (List Instance)) → AreAllBelow those bound lists → AreDrawn found old new (sum_by length lists))
+    pub group_drawn : (old new : ℕ) → OfThem (λ those. (lists : List (List Instance)) → AreAllBelow those bound lists → IsCountDrawn found old new (sum_by length lists))
         → (n : ℕ) → IsStatementCount all (OfGroup group) n → IsStatementDrawn all (OfGroup group) (not found) old new n
     group_drawn old new drawn n c =
         let same = one_bound c.members group.from group.days c.bound bound c.is (is c.members c.at) in
         let sums = drawn c.members c.at c.lists (subst (λ (t : ℤ). AreAllBelow c.members t c.lists) same c.below) in
         compared_drawn (HasCompared all (OfGroup group)) span (not found) old new n
-        (subst (λ (v : Bool). AreDrawn v old new n) (sym (twice found)) (subst (AreDrawn found old new) (sym c.count) sums))
+        (subst (λ (v : Bool). IsCountDrawn v old new n) (sym (twice found)) (subst (IsCountDrawn found old new) (sym c.count) sums))
       where
         twice : (v : Bool) → not (not v) ≡ v
         twice true = refl

@@ -22,11 +22,11 @@ use Rattle.profile.specs.events.Spans.{StartsBelow, HaveClash}
 use Rattle.cal_events.specs.Calendar.{HaveOwnKeys}
 use Rattle.cal_events.specs.declared.sweep.Span.{Span}
 use Rattle.cal_events.proofs.shared_lemmas.InOneOrder.{later, none_in, head_pairs, tail_pairs}
-use Rattle.clash_check.specs.Comings.{next_cmp, item_of, span_at, DrawsNext}
+use Rattle.clash_check.specs.Comings.{next_cmp, item_of, span_of_next, DrawsNext}
 use Rattle.clash_check.specs.Counted.{AreAllBelow}
-use Rattle.clash_check.specs.Draws.{IsPlace, IsDrawable, IsSpanBetween, drawn_more, one_if}
-use Rattle.clash_check.specs.Sweeps.{HaveNoClash, AreDrawn}
-use Rattle.clash_check.specs.Walks.{IsBelow, walk_place, IsBehind, IsLastBehind, IsWalkOf, BeginsWalk, GoesPast, MeetsLast, MeetsNone, EndsLater}
+use Rattle.clash_check.specs.Draws.{IsPlaceOfSeries, IsDrawable, IsSpanBetween, drawn_more, one_if}
+use Rattle.clash_check.specs.Sweeps.{HaveNoClash, IsCountDrawn}
+use Rattle.clash_check.specs.Walks.{IsBelow, place_of_walk, IsWalkedPast, IsLastWalkedPast, IsWalkThrough, BeginsAtFirst, PassesOne, MeetsLast, SharesWithNone, IsLaterEnd}
 use Rattle.clash_check.specs.declared.group_sweep.Next.{Next}
 use Rattle.clash_check.specs.declared.walk.Walk.{Walk}
 use Rattle.clash_check.proofs.Counts.{drawn_for, first_counted, past_counted, some_counted, all_counted}
@@ -40,14 +40,14 @@ use Rattle.clash_check.proofs.ComingLemmas.{with, with_same, with_other, IsHeapO
 pub record AreWalks (all : Confirmed) (members : List ℕ) (bound : ℤ) (Coming : ℕ → ℤ → ℤ → Type 0) (hs : List (Reverse Next)) (walk : ℕ → Walk) : Type 0 where
   pub order : IsHeap next_cmp hs
   pub heap : IsHeapOf members walk hs
-  pub are : (k : ℕ) → Contains members k → (a : Event) → IsSeriesAt all k a → IsWalkOf (IsBelow a bound) (Coming k) bound (walk k)
+  pub are : (k : ℕ) → Contains members k → (a : Event) → IsSeriesAt all k a → IsWalkThrough (IsBelow a bound) (Coming k) bound (walk k)
 
 -- one of them went past what starts and ends then
 pub record IsPassed (all : Confirmed) (members : List ℕ) (bound : ℤ) (walk : ℕ → Walk) (k : ℕ) (s e : ℤ) : Type 0 where
   pub member : Contains members k
   pub a : Event
   pub at : IsSeriesAt all k a
-  pub behind : IsBehind (IsBelow a bound) (walk_place bound (walk k).next) s e
+  pub behind : IsWalkedPast (IsBelow a bound) (place_of_walk bound (walk k).next) s e
 
 abbrev pub IsAnyPassed : Confirmed → List ℕ → ℤ → (ℕ → Walk) → ℤ → ℤ → Type 0
 IsAnyPassed all members bound walk s e = (k : ℕ) × IsPassed all members bound walk k s e
@@ -55,16 +55,16 @@ IsAnyPassed all members bound walk s e = (k : ℕ) × IsPassed all members bound
 -- those of the others stay where they are
 walks_with : (all : Confirmed) (members more : List ℕ) (bound : ℤ) (Old New : ℕ → ℤ → ℤ → Type 0) (walk : ℕ → Walk) (k : ℕ) (w : Walk)
     → ((j : ℕ) → Contains more j → j ≢ k → Contains members j) → ((j : ℕ) → j ≢ k → (s e : ℤ) → New j s e ↔ Old j s e)
-    → ((j : ℕ) → Contains members j → (a : Event) → IsSeriesAt all j a → IsWalkOf (IsBelow a bound) (Old j) bound (walk j))
-    → ((a : Event) → IsSeriesAt all k a → IsWalkOf (IsBelow a bound) (New k) bound w)
-    → (j : ℕ) → Contains more j → (a : Event) → IsSeriesAt all j a → IsWalkOf (IsBelow a bound) (New j) bound (with k w walk j)
+    → ((j : ℕ) → Contains members j → (a : Event) → IsSeriesAt all j a → IsWalkThrough (IsBelow a bound) (Old j) bound (walk j))
+    → ((a : Event) → IsSeriesAt all k a → IsWalkThrough (IsBelow a bound) (New k) bound w)
+    → (j : ℕ) → Contains more j → (a : Event) → IsSeriesAt all j a → IsWalkThrough (IsBelow a bound) (New j) bound (with k w walk j)
 walks_with all members more bound Old New walk k w without others are own j c a at =
     elim (cases_eq j k) [
       | inl same ↦
-          subst (λ n. IsWalkOf (IsBelow a bound) (New n) bound (with k w walk n)) (sym same)
-          (subst (IsWalkOf (IsBelow a bound) (New k) bound) (sym (with_same k w walk)) (own a (subst (λ n. IsSeriesAt all n a) same at)))
+          subst (λ n. IsWalkThrough (IsBelow a bound) (New n) bound (with k w walk n)) (sym same)
+          (subst (IsWalkThrough (IsBelow a bound) (New k) bound) (sym (with_same k w walk)) (own a (subst (λ n. IsSeriesAt all n a) same at)))
       | inr differ ↦
-          subst (IsWalkOf (IsBelow a bound) (New j) bound) (sym (with_other k j w walk differ))
+          subst (IsWalkThrough (IsBelow a bound) (New j) bound) (sym (with_other k j w walk differ))
           (still (IsBelow a bound) (Old j) (New j) bound (walk j) (others j differ) (are j (without j c differ) a at))
     ]
 
@@ -140,7 +140,7 @@ begun_more all drawable members k bound differ calendar between after Coming Wan
       | inr is ↦ absurd (other (sym is))
     ]
 
-    first : (a : Event) → IsSeriesAt all k a → BeginsWalk (IsBelow a bound) (Left k) bound w
+    first : (a : Event) → IsSeriesAt all k a → BeginsAtFirst (IsBelow a bound) (Left k) bound w
     first a at = at_first a bound (Wanted k) (Left k) from (known_at all drawable k a at) early (starts a (subst (λ (c : Confirmed). IsSeriesAt c k a) (sym b.same) at)) draws.found draws.drawn draws.coming k
 
     sum_unchanged : (ks : List ℕ) → ((j : ℕ) → Contains ks j → j ≢ k) → sum_by (λ j. one_if (with k w b.walk j).next) ks ≡ sum_by (λ j. one_if (b.walk j).next) ks
@@ -163,7 +163,7 @@ drawn_in bound walk (k ∷ ks) (xs ∷ lists) = drawn_for bound (walk k).next xs
 module _ (all : Confirmed) (drawable : IsDrawable all) (bound : ℤ) (Coming : ℕ → ℤ → ℤ → Type 0) (walk : ℕ → Walk) where
   -- each of these series is walked through
   abbrev pub Each : List ℕ → Type 0
-  Each ks = (k : ℕ) → Contains ks k → (a : Event) → IsSeriesAt all k a → IsWalkOf (IsBelow a bound) (Coming k) bound (walk k)
+  Each ks = (k : ℕ) → Contains ks k → (a : Event) → IsSeriesAt all k a → IsWalkThrough (IsBelow a bound) (Coming k) bound (walk k)
 
   rest_of : (k : ℕ) (ks : List ℕ) → Each (k ∷ ks) → Each ks
   rest_of k ks each j c = each j (later k j ks c)
@@ -234,7 +234,7 @@ module _ (all : Confirmed) (drawable : IsDrawable all) (bound : ℤ) (Coming : �
 
     pub more_drawn : (Left : ℤ → ℤ → Type 0) (next : Span) (ks : List ℕ) (events : List Event) (lists : List (List SaidInstance)) → AreSeriesAt all ks events → AreAllBelow events bound lists
         → AllPairs ◌<◌ ks → Contains ks k → (walk k).next ≡ Some next
-        → ((a : Event) → IsSeriesAt all k a → IsWalkOf (IsBelow a bound) (Coming k) bound (walk k)) → ((a : Event) → IsSeriesAt all k a → GoesPast (IsBelow a bound) Left bound next (walk k) w)
+        → ((a : Event) → IsSeriesAt all k a → IsWalkThrough (IsBelow a bound) (Coming k) bound (walk k)) → ((a : Event) → IsSeriesAt all k a → PassesOne (IsBelow a bound) Left bound next (walk k) w)
         → drawn_in bound (with k w walk) ks lists ≡ drawn_in bound walk ks lists + one_if w.next
     more_drawn Left next [] events lists at below ascending c is own goes = absurd (none_in k c)
     more_drawn Left next (j ∷ ks) [] lists at below ascending c is own goes = absurd at
@@ -260,8 +260,8 @@ pub record IsGroupAt (all : Confirmed) (members : List ℕ) (bound : ℤ) (calen
   pub same : calendar ≡ all
   pub walk : ℕ → Walk
   pub walks : AreWalks all members bound Coming hs walk
-  pub ends : IsLastBehind (IsAnyPassed all members bound walk) bound last
-  pub abreast : (k j : ℕ) (s e : ℤ) → IsPassed all members bound walk k s e → Contains members j → s ≤ℤ walk_place bound (walk j).next
+  pub ends : IsLastWalkedPast (IsAnyPassed all members bound walk) bound last
+  pub abreast : (k j : ℕ) (s e : ℤ) → IsPassed all members bound walk k s e → Contains members j → s ≤ℤ place_of_walk bound (walk j).next
   pub clear : (k j : ℕ) (s e u v : ℤ) → IsPassed all members bound walk k s e → IsPassed all members bound walk j u v → (k ≡ j → s ≡ u → ⊥) → SharesInstant s e u v → ⊥
   pub count : (events : List Event) → AreSeriesAt all members events → (lists : List (List SaidInstance)) → AreAllBelow events bound lists → new ≡ drawn_more old (drawn_in bound walk members lists)
 
@@ -282,7 +282,7 @@ group_first all drawable members bound calendar Coming old new hs b = record {
   where
     none_passed : (k : ℕ) (s e : ℤ) → IsPassed all members bound b.walk k s e → ⊥
     none_passed k s e p =
-        subst (IsLastBehind (IsBelow p.a bound) (walk_place bound (b.walk k).next)) (b.none k p.member) (b.walks.are k p.member p.a p.at).last s e p.behind
+        subst (IsLastWalkedPast (IsBelow p.a bound) (place_of_walk bound (b.walk k).next)) (b.none k p.member) (b.walks.are k p.member p.a p.at).last s e p.behind
 
 -- ---- the series of the members
 
@@ -310,7 +310,7 @@ event_at all (j ∷ ks) (a ∷ events) k at (zero, w, e) = (a, subst (λ n. IsSe
 event_at all (j ∷ ks) (a ∷ events) k at (suc i, w, e) = let r = event_at all ks events k at.1 (i, omega (arith, w), e) in (r.0, r.1, later a r.0 events r.2)
 
 -- instances of two series have different keys
-keys_differ : (all : Confirmed) → HaveOwnKeys all → (i j : ℕ) (a b : Event) → IsPlace (length all.series) i → IsPlace (length all.series) j → i ≢ j → IsSeriesAt all i a → IsSeriesAt all j b
+keys_differ : (all : Confirmed) → HaveOwnKeys all → (i j : ℕ) (a b : Event) → IsPlaceOfSeries (length all.series) i → IsPlaceOfSeries (length all.series) j → i ≢ j → IsSeriesAt all i a → IsSeriesAt all j b
     → (x y : SaidInstance) → IsInstance a x → IsInstance b y → x.key ≢ y.key
 keys_differ all own i j a b p q differ at there x y h k same =
     elim (cases_order (i - 1) (j - 1)) [
@@ -331,16 +331,16 @@ later_of : Option Span → Span → Span
 later_of None next = next
 later_of (Some l) next = if int_lt l.end next.end then next else l
 
-later_ends : (last : Option Span) (next : Span) → EndsLater last next (later_of last next)
+later_ends : (last : Option Span) (next : Span) → IsLaterEnd last next (later_of last next)
 unfolding later_of
 later_ends None next = record { one = inr refl; than_next = omega (arith, ints); than_old = tt }
 later_ends (Some l) next = go (int_lt l.end next.end) refl
   where
-    go : (b : Bool) → int_lt l.end next.end ≡ b → EndsLater (Some l) next (if b then next else l)
+    go : (b : Bool) → int_lt l.end next.end ≡ b → IsLaterEnd (Some l) next (if b then next else l)
     go true e = record { one = inr refl; than_next = omega (arith, ints); than_old = let less : l.end <ℤ next.end = search (ints, rules) in omega (arith, ints, less) }
     go false e = record { one = inl refl; than_next = search (ints, rules); than_old = omega (arith, ints) }
 
-module _ (all : Confirmed) (drawable : IsDrawable all) (members : List ℕ) (places : (i : ℕ) → Contains members i → IsPlace (length all.series) i) (bound : ℤ) (calendar : Confirmed) (Coming : ℕ → ℤ → ℤ → Type 0) (old new : ℕ) (hs : List (Reverse Next)) (last : Option Span)
+module _ (all : Confirmed) (drawable : IsDrawable all) (members : List ℕ) (places : (i : ℕ) → Contains members i → IsPlaceOfSeries (length all.series) i) (bound : ℤ) (calendar : Confirmed) (Coming : ℕ → ℤ → ℤ → Type 0) (old new : ℕ) (hs : List (Reverse Next)) (last : Option Span)
     (at : IsGroupAt all members bound calendar Coming old new hs last) where
   -- each is before the bound
   passed_below : (s e : ℤ) → IsAnyPassed all members bound at.walk s e → s <ℤ bound
@@ -368,7 +368,7 @@ module _ (all : Confirmed) (drawable : IsDrawable all) (members : List ℕ) (pla
       a = a;
       at = is;
       behind =
-          let place : walk_place bound (at.walk k).next ≡ bound = ap (walk_place bound) (at_ends k c) in
+          let place : place_of_walk bound (at.walk k).next ≡ bound = ap (place_of_walk bound) (at_ends k c) in
           let l = h.1 in
           (as_span a bound x h, omega (arith, ints, place, l));
     }
@@ -390,7 +390,7 @@ module _ (all : Confirmed) (drawable : IsDrawable all) (members : List ℕ) (pla
     k = h.0.series
 
     abbrev pub next : Span
-    next = span_at h
+    next = span_of_next h
 
     of : Contains members k × ((at.walk k).next ≡ Some next)
     of = at.walks.heap.of h (Contains-permutation (h ∷ rest) hs h (IsPermutation-sym hs (h ∷ rest) popped) (zero, omega arith, refl))
@@ -398,13 +398,13 @@ module _ (all : Confirmed) (drawable : IsDrawable all) (members : List ℕ) (pla
     pub popped_member : Contains members k
     popped_member = of.0
 
-    starts : walk_place bound (at.walk k).next ≡ next.start
-    starts = ap (walk_place bound) of.1
+    starts : place_of_walk bound (at.walk k).next ≡ next.start
+    starts = ap (place_of_walk bound) of.1
 
     own : (a : Event) → IsSeriesAt all k a → IsBelow a bound next.start next.end
     own a is = next_of (IsBelow a bound) (Coming k) bound (at.walk k) next (at.walks.are k of.0 a is) of.1
 
-    pub group_some : (events : List Event) → AreSeriesAt all members events → (lists : List (List SaidInstance)) → AreAllBelow events bound lists → AreDrawn true old new (sum_by length lists)
+    pub group_some : (events : List Event) → AreSeriesAt all members events → (lists : List (List SaidInstance)) → AreAllBelow events bound lists → IsCountDrawn true old new (sum_by length lists)
     group_some events are lists below = (
       drawn_in bound at.walk members lists,
       one_drawn all drawable bound Coming at.walk members events lists k next are below of.0 of.1,
@@ -453,7 +453,7 @@ module _ (all : Confirmed) (drawable : IsDrawable all) (members : List ℕ) (pla
                       let v = (known_at all drawable k b is).slots y hy in
                       let w = ap (λ (z : Key). z.slot) same in
                       let less = p.behind.1 in
-                      let here : walk_place bound (at.walk i).next ≡ next.start = ap (λ n. walk_place bound (at.walk n).next) one ∙ starts in
+                      let here : place_of_walk bound (at.walk i).next ≡ next.start = ap (λ n. place_of_walk bound (at.walk n).next) one ∙ starts in
                       omega (arith, ints, u, v, w, less, here, sx, sy)
                   | inr other ↦ keys_differ all drawable.own i k p.a b (places i p.member) (places k of.0) other p.at is x y hx hy same
                 ]
@@ -467,7 +467,7 @@ module _ (all : Confirmed) (drawable : IsDrawable all) (members : List ℕ) (pla
       abbrev walk : ℕ → Walk
       walk = with k w at.walk
 
-      goes : (a : Event) → IsSeriesAt all k a → GoesPast (IsBelow a bound) (Left k) bound next (at.walk k) w
+      goes : (a : Event) → IsSeriesAt all k a → PassesOne (IsBelow a bound) (Left k) bound next (at.walk k) w
       goes a is =
           gone_past (IsBelow a bound) (Coming k) (Left k) bound (λ s e b. b.1) (below_one a bound (known_at all drawable k a is)) (at.walk k) (at.walks.are k of.0 a is) next of.1 draws.found draws.drawn draws.coming
           (later_of (at.walk k).last next) (later_ends (at.walk k).last next) k
@@ -488,25 +488,25 @@ module _ (all : Confirmed) (drawable : IsDrawable all) (members : List ℕ) (pla
 
       module _ (pops : IsHeap next_cmp hs → IsHeap next_cmp rest × IsUpperBound next_cmp h hs) where
         -- no walk is at an earlier place
-        next_first : (j : ℕ) → Contains members j → next.start ≤ℤ walk_place bound (at.walk j).next
+        next_first : (j : ℕ) → Contains members j → next.start ≤ℤ place_of_walk bound (at.walk j).next
         next_first j c = go (at.walk j).next refl
           where
-            go : (o : Option Span) → (at.walk j).next ≡ o → next.start ≤ℤ walk_place bound o
+            go : (o : Option Span) → (at.walk j).next ≡ o → next.start ≤ℤ place_of_walk bound o
             go None e = let l = (own there.0 there.1).1 in omega (arith, ints, l)
             go (Some x) e = starts_first h (item_of j x) hs (pops at.walks.order).1 (at.walks.heap.each j x c e)
 
-        own_place : walk_place bound (walk k).next ≡ walk_place bound w.next
-        own_place = ap (λ (v : Walk). walk_place bound v.next) (with_same k w at.walk)
+        own_place : place_of_walk bound (walk k).next ≡ place_of_walk bound w.next
+        own_place = ap (λ (v : Walk). place_of_walk bound v.next) (with_same k w at.walk)
 
-        other_place : (j : ℕ) → j ≢ k → walk_place bound (walk j).next ≡ walk_place bound (at.walk j).next
-        other_place j other = ap (λ (v : Walk). walk_place bound v.next) (with_other k j w at.walk other)
+        other_place : (j : ℕ) → j ≢ k → place_of_walk bound (walk j).next ≡ place_of_walk bound (at.walk j).next
+        other_place j other = ap (λ (v : Walk). place_of_walk bound v.next) (with_other k j w at.walk other)
 
-        onward : walk_place bound (at.walk k).next <ℤ walk_place bound (walk k).next
+        onward : place_of_walk bound (at.walk k).next <ℤ place_of_walk bound (walk k).next
         onward = let f = (goes there.0 there.1).further in omega (arith, ints, f, own_place)
 
-        no_earlier : (j : ℕ) → walk_place bound (at.walk j).next ≤ℤ walk_place bound (walk j).next
+        no_earlier : (j : ℕ) → place_of_walk bound (at.walk j).next ≤ℤ place_of_walk bound (walk j).next
         no_earlier j = elim (cases_eq j k) [
-          | inl same ↦ subst (λ n. walk_place bound (at.walk n).next ≤ℤ walk_place bound (walk n).next) (sym same) (let l = onward in omega (arith, ints, l))
+          | inl same ↦ subst (λ n. place_of_walk bound (at.walk n).next ≤ℤ place_of_walk bound (walk n).next) (sym same) (let l = onward in omega (arith, ints, l))
           | inr other ↦ let e = other_place j other in omega (arith, ints, e)
         ]
 
@@ -516,10 +516,10 @@ module _ (all : Confirmed) (drawable : IsDrawable all) (members : List ℕ) (pla
           | inr other ↦ inl (record { member = p.member; a = p.a; at = p.at; behind = (p.behind.0, let l = p.behind.1 in let e = other_place j other in omega (arith, ints, l, e)) })
           | inl same ↦
               let is = subst (λ n. IsSeriesAt all n p.a) same p.at in
-              let place : walk_place bound (walk j).next ≡ walk_place bound w.next = ap (λ n. walk_place bound (walk n).next) same ∙ own_place in
+              let place : place_of_walk bound (walk j).next ≡ place_of_walk bound w.next = ap (λ n. place_of_walk bound (walk n).next) same ∙ own_place in
               let l = p.behind.1 in
               elim ((goes p.a is).one s e (p.behind.0, omega (arith, ints, l, place))) [
-                | inl old ↦ inl (record { member = p.member; a = p.a; at = p.at; behind = (old.0, let l = old.1 in let e : walk_place bound (at.walk j).next ≡ walk_place bound (at.walk k).next = ap (λ n. walk_place bound (at.walk n).next) same in omega (arith, ints, l, e)) })
+                | inl old ↦ inl (record { member = p.member; a = p.a; at = p.at; behind = (old.0, let l = old.1 in let e : place_of_walk bound (at.walk j).next ≡ place_of_walk bound (at.walk k).next = ap (λ n. place_of_walk bound (at.walk n).next) same in omega (arith, ints, l, e)) })
                 | inr now ↦ inr (same, now.0, now.1)
               ]
         ]
@@ -530,30 +530,30 @@ module _ (all : Confirmed) (drawable : IsDrawable all) (members : List ℕ) (pla
         now_passed : IsPassed all members bound walk k next.start next.end
         now_passed = record { member = of.0; a = there.0; at = there.1; behind = (own there.0 there.1, let l = onward in omega (arith, ints, l, starts)) }
 
-        ends_now : (latest : Span) → EndsLater last next latest → IsLastBehind (IsAnyPassed all members bound walk) bound (Some latest)
+        ends_now : (latest : Span) → IsLaterEnd last next latest → IsLastWalkedPast (IsAnyPassed all members bound walk) bound (Some latest)
         ends_now latest l = (first l.one, every)
           where
-            first : (last ≡ Some latest) ⊎ (latest ≡ next) → IsBehind (IsAnyPassed all members bound walk) bound latest.start latest.end
+            first : (last ≡ Some latest) ⊎ (latest ≡ next) → IsWalkedPast (IsAnyPassed all members bound walk) bound latest.start latest.end
             first (inl e) =
-                let b = (subst (IsLastBehind (IsAnyPassed all members bound at.walk) bound) e at.ends).0 in
+                let b = (subst (IsLastWalkedPast (IsAnyPassed all members bound at.walk) bound) e at.ends).0 in
                 ((b.0.0, still_passed b.0.0 latest.start latest.end b.0.1), b.1)
-            first (inr e) = subst (λ (x : Span). IsBehind (IsAnyPassed all members bound walk) bound x.start x.end) (sym e) ((k, now_passed), (own there.0 there.1).1)
+            first (inr e) = subst (λ (x : Span). IsWalkedPast (IsAnyPassed all members bound walk) bound x.start x.end) (sym e) ((k, now_passed), (own there.0 there.1).1)
 
-            older : (o : Option Span) → IsLastBehind (IsAnyPassed all members bound at.walk) bound o → IfSome o (λ x. x.end ≤ℤ latest.end) → (s e : ℤ) → IsAnyPassed all members bound at.walk s e → e ≤ℤ latest.end
+            older : (o : Option Span) → IsLastWalkedPast (IsAnyPassed all members bound at.walk) bound o → IfSome o (λ x. x.end ≤ℤ latest.end) → (s e : ℤ) → IsAnyPassed all members bound at.walk s e → e ≤ℤ latest.end
             older None ends m s e p = absurd (ends s e (p, passed_below s e p))
             older (Some x) ends m s e p = let n = ends.1 s e (p, passed_below s e p) in omega (arith, ints, n, m)
 
-            every : (s e : ℤ) → IsBehind (IsAnyPassed all members bound walk) bound s e → e ≤ℤ latest.end
+            every : (s e : ℤ) → IsWalkedPast (IsAnyPassed all members bound walk) bound s e → e ≤ℤ latest.end
             every s e b = elim (was b.0.0 s e b.0.1) [
               | inl old ↦ older last at.ends l.than_old s e (b.0.0, old)
               | inr now ↦ let m = l.than_next in let n = now.2 in omega (arith, ints, m, n)
             ]
 
         -- the next one shares no instant with those behind
-        apart : MeetsNone last next → (j : ℕ) (s e : ℤ) → IsPassed all members bound at.walk j s e → SharesInstant s e next.start next.end → ⊥
+        apart : SharesWithNone last next → (j : ℕ) (s e : ℤ) → IsPassed all members bound at.walk j s e → SharesInstant s e next.start next.end → ⊥
         apart none j s e p = meets_none (IsAnyPassed all members bound at.walk) bound last at.ends next none s e ((j, p), passed_below s e (j, p))
 
-        pub group_past : AllPairs ◌<◌ members → MeetsNone last next → (latest : Span) → EndsLater last next latest → (calendar' : Confirmed) → calendar' ≡ calendar
+        pub group_past : AllPairs ◌<◌ members → SharesWithNone last next → (latest : Span) → IsLaterEnd last next latest → (calendar' : Confirmed) → calendar' ≡ calendar
             → ((j : ℕ) → j ≢ k → (s e : ℤ) → Left j s e ↔ Coming j s e) → (IsHeap next_cmp rest → IsHeap next_cmp put)
             → IsGroupAt all members bound calendar' Left old after put (Some latest)
         group_past ascending none latest later_end calendar' same others order = record {

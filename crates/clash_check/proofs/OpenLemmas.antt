@@ -18,7 +18,7 @@ use Rattle.cal_events.specs.declared.series.Series.{Series}
 use Rattle.cal_events.specs.declared.instance.Instance.{Instance}
 use Rattle.cal_events.specs.declared.instances.Instances.{Instances}
 use Rattle.cal_events.specs.declared.instances.Bound.{Bound}
-use Rattle.clash_check.specs.Opened.{AreOfSeries, NoneIsBefore, AllAreLeft, IsFirstFrom}
+use Rattle.clash_check.specs.Opened.{AreOfSeries, NoneIsBefore, AllAreLeft, IsFirstSpanFrom}
 
 -- ---- the series of a calendar
 
@@ -89,12 +89,12 @@ module _ (all : Confirmed) (place : ℕ) (from : ℤ) (old new : Instances) (r :
   still_of e = of_it (λ s. slice_get all.series place ≡ Some (said_meeting s.event.now)) new (of old refl ∙ ap (λ e. Some (said_meeting e.now)) (sym e))
 
   -- of the series at that place
-  pub first_there : (found : Option (ℤ × ℤ)) → IsFirstFrom series from found → (event : Event) → slice_get all.series place ≡ Some event → IsFirstFrom event from found
-  first_there found is event at = subst (λ (m : Event). IsFirstFrom m from found) (same_Some series event (sym (of old refl) ∙ at)) is
+  pub first_there : (found : Option (ℤ × ℤ)) → IsFirstSpanFrom series from found → (event : Event) → slice_get all.series place ≡ Some event → IsFirstSpanFrom event from found
+  first_there found is event at = subst (λ (m : Event). IsFirstSpanFrom m from found) (same_Some series event (sym (of old refl) ∙ at)) is
 
   -- there was none
   module _ (gives : GivesFirst old None new) where
-    pub none_first : IsFirstFrom series from None
+    pub none_first : IsFirstSpanFrom series from None
     none_first b is at = left old refl b is at (λ after. gives.1.0 b (is, after))
 
     pub none_still_before : NoneIsBefore from (Some new)
@@ -113,7 +113,7 @@ module _ (all : Confirmed) (place : ℕ) (from : ℤ) (old new : Instances) (r :
     pub dated : (first_second ≤ℤ i.start) × (i.start <ℤ horizon)
     dated = known.dates (instance_of i) is_it
 
-    pub one_first : IsFirstFrom series from (Some (i.start, i.end))
+    pub one_first : IsFirstSpanFrom series from (Some (i.start, i.end))
     one_first = (
       (instance_of i, is_it, refl, refl),
       before old refl (instance_of i) gives.1.0,

@@ -16,7 +16,7 @@ use Rattle.cal_period.proofs.Widths.{width_is_one}
 use Rattle.clash_check.specs.Counted.{IsEntryCount}
 use Rattle.clash_check.specs.Draws.{IsDrawable, LastsAbout}
 use Rattle.clash_check.specs.Entries.{IsEntryDrawn}
-use Rattle.clash_check.specs.Singles.{week, HasNoSharer}
+use Rattle.clash_check.specs.Singles.{week, IsSharedByNone}
 use Rattle.clash_check.proofs.EntryLemmas.{one_place, two_places}
 use Rattle.clash_check.proofs.PeriodLemmas.{rest_of_multiple}
 use Rattle.clash_check.proofs.SweepLemmas.{series_there, series_in}
@@ -112,7 +112,7 @@ residues_drawn all i j m false old n none = inr (λ compared. compared, omega ar
 
 -- each instance starts at one of them
 pub not_reached : (all : Confirmed) → IsDrawable all → (i : ℕ) (a : Event) → IsSeriesAt all i a → (xs : List ℕ) → AreResidues a week xs → (width : ℤ) → LastsAbout a width → (start end : ℤ)
-    → ((x y t : ℤ) (r : ℕ) → Contains xs r → IsCongruent week x (pos r) → y ≤ℤ (x +ℤ width) → IsWithin x y t → IsWithin start end t → ⊥) → HasNoSharer a start end
+    → ((x y t : ℤ) (r : ℕ) → Contains xs r → IsCongruent week x (pos r) → y ≤ℤ (x +ℤ width) → IsWithin x y t → IsWithin start end t → ⊥) → IsSharedByNone a start end
 not_reached all drawable i a there xs are width lasts start end none b is share =
     drawable.starts a (series_in all i a there) week (omega arith) b is
     (λ r residue at. none b.start b.end share.instant r ((are.exact r).1 residue) at (lasts.most b is) share.in_first share.in_second)

@@ -23,10 +23,10 @@ use Rattle.cal_events.proofs.shared_lemmas.InOneOrder.{of_mapped}
 use Rattle.cal_events.proofs.shared_lemmas.Overlaps.{abs_is}
 use Rattle.clash_cert.proofs.MakingLemmas.{singles_clear}
 use Rattle.cal_events.specs.declared.sweep.Span.{Span}
-use Rattle.clash_check.specs.Draws.{IsPlace, IsSpanBetween, IsDrawable, IsSingleAt, LastsAbout, drawn_more, one_if}
+use Rattle.clash_check.specs.Draws.{IsPlaceOfSeries, IsSpanBetween, IsDrawable, IsSingleAt, LastsAbout, drawn_more, one_if}
 use Rattle.clash_check.specs.Entries.{IsMore}
-use Rattle.clash_check.specs.Singles.{span_in, HasSharer, HasNoSharer, HasSharers, HasNoSharers, HaveSharers, HaveNoSharers, IsEachClear, IsFewMore, AreSinglesDrawn, singles_count, IsEntry}
-use Rattle.clash_check.specs.Walks.{walk_place}
+use Rattle.clash_check.specs.Singles.{span_in, HasSharer, IsSharedByNone, HasSharers, HasNoSharers, HaveSharers, HaveNoSharers, IsEachClear, IsFewMore, AreSinglesDrawn, singles_count, IsEntryInstant}
+use Rattle.clash_check.specs.Walks.{place_of_walk}
 use Rattle.clash_check.proofs.SweepLemmas.{series_there, series_in}
 use Rattle.clash_check.proofs.WalkLemmas.{next_one, none_before, further, rest_is}
 
@@ -58,12 +58,12 @@ record IsGone (a : Event) (entry width stop bound : ℤ) (old new : ℕ) (next :
   count : IsMore old new (k + one_if next)
   far : times k width ≤ℤ triple (p -ℤ entry)
   over : p ≤ℤ stop
-  after : (s e : ℤ) → IsSpanBetween a entry bound s e → walk_place bound next ≤ℤ s → p ≤ℤ s
+  after : (s e : ℤ) → IsSpanBetween a entry bound s e → place_of_walk bound next ≤ℤ s → p ≤ℤ s
 
 pub record IsNear (a : Event) (span : Span) (width entry : ℤ) (Coming : ℤ → ℤ → Type 0) (old new : ℕ) (next : Option Span) : Type 0 where
   is : IfSome next (λ x. IsSpanBetween a entry span.end x.start x.end)
-  rest : (s e : ℤ) → Coming s e ↔ (IsSpanBetween a entry span.end s e × (walk_place span.end next <ℤ s))
-  apart : (s e : ℤ) → IsSpanBetween a entry span.end s e → s <ℤ walk_place span.end next → SharesInstant s e span.start span.end → ⊥
+  rest : (s e : ℤ) → Coming s e ↔ (IsSpanBetween a entry span.end s e × (place_of_walk span.end next <ℤ s))
+  apart : (s e : ℤ) → IsSpanBetween a entry span.end s e → s <ℤ place_of_walk span.end next → SharesInstant s e span.start span.end → ⊥
   gone : AreClear (IsInstance a) (IsInstance a) → IsGone a entry width span.start span.end old new next
 
 pub record IsNearAt (all : Confirmed) (i : ℕ) (span : Span) (width entry : ℤ) (calendar : Confirmed) (Coming : ℤ → ℤ → Type 0) (old new : ℕ) (next : Option Span) : Type 0 where
@@ -75,7 +75,7 @@ Draws Old New found =
     MatchOption found ((s e : ℤ) → Old s e → ⊥) (λ x. Old x.start x.end × ((s e : ℤ) → Old s e → x.start ≤ℤ s))
     × ((s e : ℤ) → New s e ↔ (Old s e × IfSome found (λ x. x.start <ℤ s)))
 
-module _ (a : Event) (known : AreKnownByStart a) (span : Span) (width entry : ℤ) (lasts : LastsAbout a width) (some : pos 0 <ℤ width) (enters : IsEntry span.start width entry) where
+module _ (a : Event) (known : AreKnownByStart a) (span : Span) (width entry : ℤ) (lasts : LastsAbout a width) (some : pos 0 <ℤ width) (enters : IsEntryInstant span.start width entry) where
   abbrev Is : ℤ → ℤ → Type 0
   Is = IsSpanBetween a entry span.end
 
@@ -131,7 +131,7 @@ module _ (a : Event) (known : AreKnownByStart a) (span : Span) (width entry : �
     pub near_next : (New : ℤ → ℤ → Type 0) (new : ℕ) (next : Option Span) → ((x.start <ℤ x.end) × (span.start <ℤ x.end) → ⊥)
         → MatchOption next ((s e : ℤ) → Old s e → ⊥) (λ y. Old y.start y.end × ((s e : ℤ) → Old s e → y.start ≤ℤ s))
         → ((s e : ℤ) → New s e ↔ (Old s e × IfSome next (λ y. y.start <ℤ s))) → new ≡ drawn_more mid (one_if next)
-        → (walk_place span.end (Some x) <ℤ walk_place span.end next) × IsNear a span width entry New old new next
+        → (place_of_walk span.end (Some x) <ℤ place_of_walk span.end next) × IsNear a span width entry New old new next
     near_next New new next not_on g r counted = (
       onward,
       record {
@@ -151,7 +151,7 @@ module _ (a : Event) (known : AreKnownByStart a) (span : Span) (width entry : �
         left : (s e : ℤ) → Old s e ↔ (Is s e × (from ≤ℤ s))
         left s e = (λ o. let h = (near.rest s e).0 o in (h.0, let l = h.1 in omega (arith, ints, l)), λ h. (near.rest s e).1 (h.0, let l = h.1 in omega (arith, ints, l)))
 
-        onward : x.start <ℤ walk_place span.end next
+        onward : x.start <ℤ place_of_walk span.end next
         onward =
             let b = below x.start x.end near.is in
             let f = further Is Old New span.end from below left next g (omega (arith, ints, b)) in
@@ -205,7 +205,7 @@ module _ (a : Event) (known : AreKnownByStart a) (span : Span) (width entry : �
                 })
 
   module _ (Old : ℤ → ℤ → Type 0) (old new : ℕ) (near : IsNear a span width entry Old old new None) where
-    pub near_none : HasNoSharer a span.start span.end
+    pub near_none : IsSharedByNone a span.start span.end
     near_none b is share =
         let t = share.in_first.1 in
         let f = share.in_second.0 in
@@ -236,7 +236,7 @@ pub lasts_at : (all : Confirmed) → IsDrawable all → (i : ℕ) (a : Event) (w
 lasts_at all drawable i a width there of = drawable.lengths a (series_in all i a there) width of
 
 -- what has no width has no instant
-pub no_width : (a : Event) (width start end : ℤ) → LastsAbout a width → width ≡ pos 0 → HasNoSharer a start end
+pub no_width : (a : Event) (width start end : ℤ) → LastsAbout a width → width ≡ pos 0 → IsSharedByNone a start end
 no_width a width start end lasts none b is share =
     let m = lasts.most b is in
     let i = share.in_first in
@@ -244,18 +244,18 @@ no_width a width start end lasts none b is share =
     let l = i.1 in
     omega (arith, ints, m, none, f, l)
 
-pub near_fewer : (all : Confirmed) (i : ℕ) → IsPlace (length all.series) i → (bound : ℤ) (x : Span) (old next : Option Span) → old ≡ Some x
-    → ((a : Event) → IsSeriesAt all i a → (x.start <ℤ walk_place bound next) × (walk_place bound next ≤ℤ bound))
-    → unsigned_abs (bound -ℤ walk_place bound next) < unsigned_abs (bound -ℤ walk_place bound old)
+pub near_fewer : (all : Confirmed) (i : ℕ) → IsPlaceOfSeries (length all.series) i → (bound : ℤ) (x : Span) (old next : Option Span) → old ≡ Some x
+    → ((a : Event) → IsSeriesAt all i a → (x.start <ℤ place_of_walk bound next) × (place_of_walk bound next ≤ℤ bound))
+    → unsigned_abs (bound -ℤ place_of_walk bound next) < unsigned_abs (bound -ℤ place_of_walk bound old)
 near_fewer all i place bound x old next e h =
     let (a, at) = series_there all i place in
     let (further, within) = h a at in
-    let here : walk_place bound old ≡ x.start = ap (walk_place bound) e in
-    let p = abs_is (bound -ℤ walk_place bound next) (omega (arith, ints, within)) in
-    let q = abs_is (bound -ℤ walk_place bound old) (omega (arith, ints, within, further, here)) in
+    let here : place_of_walk bound old ≡ x.start = ap (place_of_walk bound) e in
+    let p = abs_is (bound -ℤ place_of_walk bound next) (omega (arith, ints, within)) in
+    let q = abs_is (bound -ℤ place_of_walk bound old) (omega (arith, ints, within, further, here)) in
     omega (arith, ints, p, q, further, here)
 
-pub near_within : (a : Event) (span : Span) (width entry : ℤ) (Coming : ℤ → ℤ → Type 0) (old new : ℕ) (next : Option Span) → IsNear a span width entry Coming old new next → walk_place span.end next ≤ℤ span.end
+pub near_within : (a : Event) (span : Span) (width entry : ℤ) (Coming : ℤ → ℤ → Type 0) (old new : ℕ) (next : Option Span) → IsNear a span width entry Coming old new next → place_of_walk span.end next ≤ℤ span.end
 near_within a span width entry Coming old new None h = omega (arith, ints)
 near_within a span width entry Coming old new (Some x) h = let l = h.is.2 in omega (arith, ints, l)
 
@@ -272,7 +272,7 @@ none_more n most = (0, omega arith, omega arith)
 
 pub record IsMetAt (all : Confirmed) (i : ℕ) (spans : List Span) (index : ℕ) (calendar : Confirmed) (old new : ℕ) : Type 0 where
   pub same : calendar ≡ all
-  pub none : (a : Event) → IsSeriesAt all i a → (k : ℕ) (s : Span) → k < index → slice_get spans k ≡ Some s → HasNoSharer a s.start s.end
+  pub none : (a : Event) → IsSeriesAt all i a → (k : ℕ) (s : Span) → k < index → slice_get spans k ≡ Some s → IsSharedByNone a s.start s.end
   pub few : (a : Event) → IsSeriesAt all i a → AreClear (IsInstance a) (IsInstance a) → IsFewMore old new (index * 3)
 
 pub met_first : (all : Confirmed) (i : ℕ) (spans : List Span) (n : ℕ) → IsMetAt all i spans 0 all n n
@@ -283,7 +283,7 @@ module _ (all : Confirmed) (i : ℕ) (spans : List Span) (index : ℕ) (calendar
   met_few : (a : Event) → IsSeriesAt all i a → AreClear (IsInstance a) (IsInstance a) → IsFewMore old new (index * 3 + 3)
   met_few a here clear = few_then old mid new (index * 3) 3 (at.few a here clear) (few a here clear)
 
-  pub met_next : (calendar' : Confirmed) → calendar' ≡ calendar → ((a : Event) → IsSeriesAt all i a → HasNoSharer a s.start s.end) → IsMetAt all i spans (index + 1) calendar' old new
+  pub met_next : (calendar' : Confirmed) → calendar' ≡ calendar → ((a : Event) → IsSeriesAt all i a → IsSharedByNone a s.start s.end) → IsMetAt all i spans (index + 1) calendar' old new
   met_next calendar' same none = record {
     same = same ∙ at.same;
     none = λ a here k x less is. elim (cases_lt k index) [
@@ -291,7 +291,7 @@ module _ (all : Confirmed) (i : ℕ) (spans : List Span) (index : ℕ) (calendar
       | inr from ↦
           let e : k ≡ index = omega (arith, less, from) in
           let one : s ≡ x = same_Some s x (sym there ∙ ap (slice_get spans) (sym e) ∙ is) in
-          subst (λ (y : Span). HasNoSharer a y.start y.end) one (none a here)
+          subst (λ (y : Span). IsSharedByNone a y.start y.end) one (none a here)
     ];
     few = λ a here clear. few_most old new (index * 3 + 3) ((index + 1) * 3) (omega arith) (met_few a here clear);
   }
@@ -536,7 +536,7 @@ saturated (negsuc n) h = elim (cases_lt n 9_223_372_036_854_775_808) [
 ]
 
 pub entry_is : (instant width entry : ℤ) → negsuc 9_223_372_036_854_775_807 ≤ℤ instant → instant ≤ℤ pos 9_223_372_036_854_775_807 → pos 0 <ℤ width → entry ≡ saturate_signed w64 (instant -ℤ (width -ℤ pos 1))
-    → IsEntry instant width entry
+    → IsEntryInstant instant width entry
 entry_is instant width entry least most some is =
     elim (saturated (instant -ℤ (width -ℤ pos 1)) (omega (arith, ints, most, some))) [
       | inl at ↦ record {

@@ -14,9 +14,9 @@ use Rattle.cal_events.specs.Series.{AreKnownByStart}
 use Rattle.cal_events.specs.declared.sweep.Span.{Span}
 use Rattle.cal_events.proofs.shared_lemmas.Overlaps.{abs_is}
 use Rattle.clash_check.specs.Counted.{AreBelow}
-use Rattle.clash_check.specs.Draws.{IsPlace, IsDrawable, drawn_more, one_if}
-use Rattle.clash_check.specs.Sweeps.{HaveShared, AreApart, HasShared, IsApart, AreDrawn}
-use Rattle.clash_check.specs.Walks.{IsBelow, walk_place, IsBehind, IsLastBehind, IsWalkOf, BeginsWalk, GoesPast, MeetsLast, MeetsNone}
+use Rattle.clash_check.specs.Draws.{IsPlaceOfSeries, IsDrawable, drawn_more, one_if}
+use Rattle.clash_check.specs.Sweeps.{HaveShared, AreApart, HasShared, IsApart, IsCountDrawn}
+use Rattle.clash_check.specs.Walks.{IsBelow, place_of_walk, IsWalkedPast, IsLastWalkedPast, IsWalkThrough, BeginsAtFirst, PassesOne, MeetsLast, SharesWithNone}
 use Rattle.clash_check.specs.declared.walk.Walk.{Walk}
 use Rattle.clash_check.proofs.Counts.{drawn_for, first_counted, past_counted, some_counted, all_counted, one_counted}
 
@@ -27,7 +27,7 @@ some_at [] k w = absurd (omega (arith, w))
 some_at (x ∷ xs) zero w = (x, refl)
 some_at (x ∷ xs) (suc k) w = some_at xs k (omega (arith, w))
 
-pub series_there : (all : Confirmed) (i : ℕ) → IsPlace (length all.series) i → (a : Event) × IsSeriesAt all i a
+pub series_there : (all : Confirmed) (i : ℕ) → IsPlaceOfSeries (length all.series) i → (a : Event) × IsSeriesAt all i a
 series_there all i p = let b = p.0 in let c = p.1 in some_at all.series (i - 1) (omega (arith, b, c))
 
 pub series_in : (all : Confirmed) (i : ℕ) (a : Event) → IsSeriesAt all i a → Contains all.series a
@@ -41,22 +41,22 @@ known_at all drawable i a e = drawable.known a (series_in all i a e)
 pub turned : (s e u v : ℤ) → SharesInstant s e u v → SharesInstant u v s e
 turned s e u v h = record { instant = h.instant; before = h.before; in_first = h.in_second; in_second = h.in_first }
 
-module _ (Is : ℤ → ℤ → Type 0) (place : ℤ) (last : Option Span) (ends : IsLastBehind Is place last) (next : Span) where
+module _ (Is : ℤ → ℤ → Type 0) (place : ℤ) (last : Option Span) (ends : IsLastWalkedPast Is place last) (next : Span) where
   -- it meets none of those behind
-  pub meets_none : MeetsNone last next → (s e : ℤ) → IsBehind Is place s e → SharesInstant s e next.start next.end → ⊥
+  pub meets_none : SharesWithNone last next → (s e : ℤ) → IsWalkedPast Is place s e → SharesInstant s e next.start next.end → ⊥
   meets_none none s e h share = go last ends none
     where
-      go : (o : Option Span) → IsLastBehind Is place o → MeetsNone o next → ⊥
+      go : (o : Option Span) → IsLastWalkedPast Is place o → SharesWithNone o next → ⊥
       go None ends none = ends s e h
       go (Some l) ends (inl short) = omega (arith, ints, short, share.in_second.0, share.in_second.1)
       go (Some l) ends (inr over) = let k = ends.1 s e h in omega (arith, ints, k, over, share.in_first.1, share.in_second.0)
 
   -- it meets the last of them
-  pub met : ((s e : ℤ) → IsBehind Is place s e → s ≤ℤ next.start) → next.start <ℤ horizon → (m : MeetsLast last next)
-      → IsBehind Is place m.0.start m.0.end × SharesInstant m.0.start m.0.end next.start next.end
+  pub met : ((s e : ℤ) → IsWalkedPast Is place s e → s ≤ℤ next.start) → next.start <ℤ horizon → (m : MeetsLast last next)
+      → IsWalkedPast Is place m.0.start m.0.end × SharesInstant m.0.start m.0.end next.start next.end
   met early before m =
       let l = m.0 in
-      let behind = (subst (IsLastBehind Is place) m.1 ends).0 in
+      let behind = (subst (IsLastWalkedPast Is place) m.1 ends).0 in
       let first = early l.start l.end behind in (
         behind,
         record { instant = next.start; before = before; in_first = (first, m.3); in_second = (omega (arith, ints), m.2) },
@@ -106,7 +106,7 @@ start_before a bound s e known ((x, is, p, q), l) = let d = (known.dates x is).1
 -- ---- a walk
 
 -- what comes in the same way
-pub still : (Is Old New : ℤ → ℤ → Type 0) (bound : ℤ) (walk : Walk) → ((s e : ℤ) → New s e ↔ Old s e) → IsWalkOf Is Old bound walk → IsWalkOf Is New bound walk
+pub still : (Is Old New : ℤ → ℤ → Type 0) (bound : ℤ) (walk : Walk) → ((s e : ℤ) → New s e ↔ Old s e) → IsWalkThrough Is Old bound walk → IsWalkThrough Is New bound walk
 still Is Old New bound walk same is = record {
   next = is.next;
   rest = λ s e. (λ n. (is.rest s e).0 ((same s e).0 n), λ h. (same s e).1 ((is.rest s e).1 h));
@@ -115,29 +115,29 @@ still Is Old New bound walk same is = record {
 
 -- how far it is to the bound
 abbrev pub steps_left : ℤ → Walk → ℕ
-steps_left bound walk = unsigned_abs (bound -ℤ walk_place bound walk.next)
+steps_left bound walk = unsigned_abs (bound -ℤ place_of_walk bound walk.next)
 
-place_within : (Is Coming : ℤ → ℤ → Type 0) (bound : ℤ) → ((s e : ℤ) → Is s e → s <ℤ bound) → (walk : Walk) → IsWalkOf Is Coming bound walk → walk_place bound walk.next ≤ℤ bound
+place_within : (Is Coming : ℤ → ℤ → Type 0) (bound : ℤ) → ((s e : ℤ) → Is s e → s <ℤ bound) → (walk : Walk) → IsWalkThrough Is Coming bound walk → place_of_walk bound walk.next ≤ℤ bound
 place_within Is Coming bound below walk is = go walk.next is.next
   where
-    go : (o : Option Span) → IfSome o (λ x. Is x.start x.end) → walk_place bound o ≤ℤ bound
+    go : (o : Option Span) → IfSome o (λ x. Is x.start x.end) → place_of_walk bound o ≤ℤ bound
     go None h = omega (arith, ints)
     go (Some x) h = let l = below x.start x.end h in omega (arith, ints, l)
 
-pub fewer_left : (a : Event) (Coming : ℤ → ℤ → Type 0) (bound : ℤ) (next : Span) (old new : Walk) → GoesPast (IsBelow a bound) Coming bound next old new → steps_left bound new < steps_left bound old
+pub fewer_left : (a : Event) (Coming : ℤ → ℤ → Type 0) (bound : ℤ) (next : Span) (old new : Walk) → PassesOne (IsBelow a bound) Coming bound next old new → steps_left bound new < steps_left bound old
 fewer_left a Coming bound next old new g =
     let within = place_within (IsBelow a bound) Coming bound (λ s e h. h.1) new g.is_walk in
     let further = g.further in
-    let x = abs_is (bound -ℤ walk_place bound new.next) (omega (arith, ints, within)) in
-    let y = abs_is (bound -ℤ walk_place bound old.next) (omega (arith, ints, within, further)) in
+    let x = abs_is (bound -ℤ place_of_walk bound new.next) (omega (arith, ints, within)) in
+    let y = abs_is (bound -ℤ place_of_walk bound old.next) (omega (arith, ints, within, further)) in
     omega (arith, ints, x, y, further)
 
 -- at its end all are behind
-all_behind : (a : Event) (bound : ℤ) (walk : Walk) → walk.next ≡ None → (x : SaidInstance) → StartsBelow a bound x → IsBehind (IsBelow a bound) (walk_place bound walk.next) x.start x.end
-all_behind a bound walk end x h = (as_span a bound x h, let at : walk_place bound walk.next ≡ bound = ap (walk_place bound) end in let l = h.1 in omega (arith, ints, at, l))
+all_behind : (a : Event) (bound : ℤ) (walk : Walk) → walk.next ≡ None → (x : SaidInstance) → StartsBelow a bound x → IsWalkedPast (IsBelow a bound) (place_of_walk bound walk.next) x.start x.end
+all_behind a bound walk end x h = (as_span a bound x h, let at : place_of_walk bound walk.next ≡ bound = ap (place_of_walk bound) end in let l = h.1 in omega (arith, ints, at, l))
 
 -- its next one
-pub next_of : (Is Coming : ℤ → ℤ → Type 0) (bound : ℤ) (walk : Walk) (next : Span) → IsWalkOf Is Coming bound walk → walk.next ≡ Some next → Is next.start next.end
+pub next_of : (Is Coming : ℤ → ℤ → Type 0) (bound : ℤ) (walk : Walk) (next : Span) → IsWalkThrough Is Coming bound walk → walk.next ≡ Some next → Is next.start next.end
 next_of Is Coming bound walk next is e = subst (λ (o : Option Span). IfSome o (λ x. Is x.start x.end)) e is.next
 
 -- ---- a sweep through one series
@@ -146,26 +146,26 @@ next_of Is Coming bound walk next is e = subst (λ (o : Option Span). IfSome o (
 pub record IsAloneAt (all : Confirmed) (i : ℕ) (bound : ℤ) (calendar : Confirmed) (Coming : ℤ → ℤ → Type 0) (old new : ℕ) (walk : Walk) : Type 0 where
   pub same : calendar ≡ all
   pub series : walk.series ≡ i
-  pub is : (a : Event) → IsSeriesAt all i a → IsWalkOf (IsBelow a bound) Coming bound walk
-  pub clear : (a : Event) → IsSeriesAt all i a → (s e u v : ℤ) → IsBehind (IsBelow a bound) (walk_place bound walk.next) s e → IsBehind (IsBelow a bound) (walk_place bound walk.next) u v → s ≢ u
+  pub is : (a : Event) → IsSeriesAt all i a → IsWalkThrough (IsBelow a bound) Coming bound walk
+  pub clear : (a : Event) → IsSeriesAt all i a → (s e u v : ℤ) → IsWalkedPast (IsBelow a bound) (place_of_walk bound walk.next) s e → IsWalkedPast (IsBelow a bound) (place_of_walk bound walk.next) u v → s ≢ u
       → SharesInstant s e u v → ⊥
   pub count : (a : Event) → IsSeriesAt all i a → (xs : List SaidInstance) → AreBelow a bound xs → new ≡ drawn_more old (drawn_for bound walk.next xs)
 
 pub alone_first : (all : Confirmed) → IsDrawable all → (i : ℕ) (bound : ℤ) (calendar : Confirmed) (Coming : ℤ → ℤ → Type 0) (old new : ℕ) (walk : Walk) → calendar ≡ all → walk.series ≡ i
-    → ((a : Event) → IsSeriesAt all i a → AreKnownByStart a → BeginsWalk (IsBelow a bound) Coming bound walk) → new ≡ drawn_more old (one_if walk.next) → IsAloneAt all i bound calendar Coming old new walk
+    → ((a : Event) → IsSeriesAt all i a → AreKnownByStart a → BeginsAtFirst (IsBelow a bound) Coming bound walk) → new ≡ drawn_more old (one_if walk.next) → IsAloneAt all i bound calendar Coming old new walk
 alone_first all drawable i bound calendar Coming old new walk same series begins counted = record {
   same = same;
   series = series;
   is = λ a at. (begins a at (known_at all drawable i a at)).is_walk;
   clear = λ a at s e u v h k differ share.
       let b = begins a at (known_at all drawable i a at) in
-      subst (IsLastBehind (IsBelow a bound) (walk_place bound walk.next)) b.none b.is_walk.last s e h;
+      subst (IsLastWalkedPast (IsBelow a bound) (place_of_walk bound walk.next)) b.none b.is_walk.last s e h;
   count = λ a at xs are.
       let known = known_at all drawable i a at in
       counted ∙ ap (drawn_more old) (sym (first_counted a known bound xs are Coming walk (begins a at known)));
 }
 
-module _ (all : Confirmed) (drawable : IsDrawable all) (i : ℕ) (place : IsPlace (length all.series) i) (bound : ℤ) (calendar : Confirmed) (Coming : ℤ → ℤ → Type 0) (old new : ℕ) (walk : Walk)
+module _ (all : Confirmed) (drawable : IsDrawable all) (i : ℕ) (place : IsPlaceOfSeries (length all.series) i) (bound : ℤ) (calendar : Confirmed) (Coming : ℤ → ℤ → Type 0) (old new : ℕ) (walk : Walk)
     (at : IsAloneAt all i bound calendar Coming old new walk) where
   pub alone_apart : walk.next ≡ None → (a : Event) → IsSeriesAt all i a → IsApart a bound
   alone_apart end a there x y h k differ share =
@@ -180,12 +180,12 @@ module _ (all : Confirmed) (drawable : IsDrawable all) (i : ℕ) (place : IsPlac
     alone_found m a there =
         let known = known_at all drawable i a there in
         let own = next_of (IsBelow a bound) Coming bound walk next (at.is a there) is in
-        let starts : walk_place bound walk.next ≡ next.start = ap (walk_place bound) is in
-        let f = met (IsBelow a bound) (walk_place bound walk.next) walk.last (at.is a there).last next (λ s e h. let l = h.1 in omega (arith, ints, l, starts)) (start_before a bound next.start next.end known own) m in
+        let starts : place_of_walk bound walk.next ≡ next.start = ap (place_of_walk bound) is in
+        let f = met (IsBelow a bound) (place_of_walk bound walk.next) walk.last (at.is a there).last next (λ s e h. let l = h.1 in omega (arith, ints, l, starts)) (start_before a bound next.start next.end known own) m in
         let less = f.0.1 in
         has_shared a bound m.0.start m.0.end next.start next.end known f.0.0 own (omega (arith, ints, less, starts)) f.1
 
-    pub alone_some : MeetsLast walk.last next → (a : Event) → IsSeriesAt all i a → (xs : List SaidInstance) → AreBelow a bound xs → AreDrawn true old new (length xs)
+    pub alone_some : MeetsLast walk.last next → (a : Event) → IsSeriesAt all i a → (xs : List SaidInstance) → AreBelow a bound xs → IsCountDrawn true old new (length xs)
     alone_some m a there xs are =
         let known = known_at all drawable i a there in (
           drawn_for bound walk.next xs,
@@ -194,8 +194,8 @@ module _ (all : Confirmed) (drawable : IsDrawable all) (i : ℕ) (place : IsPlac
           at.count a there xs are,
         )
 
-    pub alone_past : (calendar' : Confirmed) (Left : ℤ → ℤ → Type 0) (after : ℕ) (past : Walk) → calendar' ≡ calendar → past.series ≡ walk.series → MeetsNone walk.last next
-        → ((a : Event) (b : ℤ) → AreKnownByStart a → IsWalkOf (IsBelow a b) Coming b walk → GoesPast (IsBelow a b) Left b next walk past)
+    pub alone_past : (calendar' : Confirmed) (Left : ℤ → ℤ → Type 0) (after : ℕ) (past : Walk) → calendar' ≡ calendar → past.series ≡ walk.series → SharesWithNone walk.last next
+        → ((a : Event) (b : ℤ) → AreKnownByStart a → IsWalkThrough (IsBelow a b) Coming b walk → PassesOne (IsBelow a b) Left b next walk past)
         → after ≡ drawn_more new (one_if past.next) → IsAloneAt all i bound calendar' Left old after past
     alone_past calendar' Left after past same series none goes counted = record {
       same = same ∙ at.same;
@@ -218,13 +218,13 @@ module _ (all : Confirmed) (drawable : IsDrawable all) (i : ℕ) (place : IsPlac
           omega (arith, more, was, counted);
     }
       where
-        gone : (a : Event) → IsSeriesAt all i a → GoesPast (IsBelow a bound) Left bound next walk past
+        gone : (a : Event) → IsSeriesAt all i a → PassesOne (IsBelow a bound) Left bound next walk past
         gone a there = goes a bound (known_at all drawable i a there) (at.is a there)
 
-        never : (a : Event) → IsSeriesAt all i a → (s e : ℤ) → IsBehind (IsBelow a bound) (walk_place bound walk.next) s e → SharesInstant s e next.start next.end → ⊥
-        never a there = meets_none (IsBelow a bound) (walk_place bound walk.next) walk.last (at.is a there).last next none
+        never : (a : Event) → IsSeriesAt all i a → (s e : ℤ) → IsWalkedPast (IsBelow a bound) (place_of_walk bound walk.next) s e → SharesInstant s e next.start next.end → ⊥
+        never a there = meets_none (IsBelow a bound) (place_of_walk bound walk.next) walk.last (at.is a there).last next none
 
-    pub alone_fewer : (Left : ℤ → ℤ → Type 0) (past : Walk) → ((a : Event) (b : ℤ) → AreKnownByStart a → IsWalkOf (IsBelow a b) Coming b walk → GoesPast (IsBelow a b) Left b next walk past)
+    pub alone_fewer : (Left : ℤ → ℤ → Type 0) (past : Walk) → ((a : Event) (b : ℤ) → AreKnownByStart a → IsWalkThrough (IsBelow a b) Coming b walk → PassesOne (IsBelow a b) Left b next walk past)
         → steps_left bound past < steps_left bound walk
     alone_fewer Left past goes =
         let (a, there) = series_there all i place in
@@ -234,17 +234,17 @@ module _ (all : Confirmed) (drawable : IsDrawable all) (i : ℕ) (place : IsPlac
 
 -- those behind share no instant, and none of the one starts after the place of the other
 pub record AreAbreast (a b : Event) (bound p q : ℤ) : Type 0 where
-  pub clear : (s e u v : ℤ) → IsBehind (IsBelow a bound) p s e → IsBehind (IsBelow b bound) q u v → SharesInstant s e u v → ⊥
-  pub first : (s e : ℤ) → IsBehind (IsBelow a bound) p s e → s ≤ℤ q
-  pub second : (u v : ℤ) → IsBehind (IsBelow b bound) q u v → u ≤ℤ p
+  pub clear : (s e u v : ℤ) → IsWalkedPast (IsBelow a bound) p s e → IsWalkedPast (IsBelow b bound) q u v → SharesInstant s e u v → ⊥
+  pub first : (s e : ℤ) → IsWalkedPast (IsBelow a bound) p s e → s ≤ℤ q
+  pub second : (u v : ℤ) → IsWalkedPast (IsBelow b bound) q u v → u ≤ℤ p
 
 pub record IsPairAt (all : Confirmed) (i j : ℕ) (bound : ℤ) (calendar : Confirmed) (Coming : ℕ → ℤ → ℤ → Type 0) (old new : ℕ) (first second : Walk) : Type 0 where
   pub same : calendar ≡ all
   pub first_series : first.series ≡ i
   pub second_series : second.series ≡ j
-  pub in_first : (a : Event) → IsSeriesAt all i a → IsWalkOf (IsBelow a bound) (Coming first.series) bound first
-  pub in_second : (b : Event) → IsSeriesAt all j b → IsWalkOf (IsBelow b bound) (Coming second.series) bound second
-  pub abreast : (a b : Event) → IsSeriesAt all i a → IsSeriesAt all j b → AreAbreast a b bound (walk_place bound first.next) (walk_place bound second.next)
+  pub in_first : (a : Event) → IsSeriesAt all i a → IsWalkThrough (IsBelow a bound) (Coming first.series) bound first
+  pub in_second : (b : Event) → IsSeriesAt all j b → IsWalkThrough (IsBelow b bound) (Coming second.series) bound second
+  pub abreast : (a b : Event) → IsSeriesAt all i a → IsSeriesAt all j b → AreAbreast a b bound (place_of_walk bound first.next) (place_of_walk bound second.next)
   pub count : (a b : Event) → IsSeriesAt all i a → IsSeriesAt all j b → (xs ys : List SaidInstance) → AreBelow a bound xs → AreBelow b bound ys
       → new ≡ drawn_more old (drawn_for bound first.next xs + drawn_for bound second.next ys)
 
@@ -265,8 +265,8 @@ pair_turned all i j bound calendar Coming old new first second at = record {
 module _ (all : Confirmed) (drawable : IsDrawable all) (i j : ℕ) (bound : ℤ) where
   pub pair_first : (calendar middle : Confirmed) (Coming Between : ℕ → ℤ → ℤ → Type 0) (old half new : ℕ) (first second : Walk) → i ≢ j → middle ≡ all → calendar ≡ middle
       → first.series ≡ i → second.series ≡ j
-      → ((a : Event) → IsSeriesAt all i a → AreKnownByStart a → BeginsWalk (IsBelow a bound) (Between first.series) bound first)
-      → ((b : Event) → IsSeriesAt middle j b → AreKnownByStart b → BeginsWalk (IsBelow b bound) (Coming second.series) bound second)
+      → ((a : Event) → IsSeriesAt all i a → AreKnownByStart a → BeginsAtFirst (IsBelow a bound) (Between first.series) bound first)
+      → ((b : Event) → IsSeriesAt middle j b → AreKnownByStart b → BeginsAtFirst (IsBelow b bound) (Coming second.series) bound second)
       → ((k : ℕ) → k ≢ j → (s e : ℤ) → Coming k s e ↔ Between k s e)
       → half ≡ drawn_more old (one_if first.next) → new ≡ drawn_more half (one_if second.next)
       → IsPairAt all i j bound calendar Coming old new first second
@@ -287,16 +287,16 @@ module _ (all : Confirmed) (drawable : IsDrawable all) (i j : ℕ) (bound : ℤ)
         omega (arith, one, two, x, y);
   }
     where
-      none : (Is Left : ℤ → ℤ → Type 0) (walk : Walk) → BeginsWalk Is Left bound walk → (s e : ℤ) → IsBehind Is (walk_place bound walk.next) s e → ⊥
-      none Is Left walk b = subst (IsLastBehind Is (walk_place bound walk.next)) b.none b.is_walk.last
+      none : (Is Left : ℤ → ℤ → Type 0) (walk : Walk) → BeginsAtFirst Is Left bound walk → (s e : ℤ) → IsWalkedPast Is (place_of_walk bound walk.next) s e → ⊥
+      none Is Left walk b = subst (IsLastWalkedPast Is (place_of_walk bound walk.next)) b.none b.is_walk.last
 
-      first_walk : (a : Event) → IsSeriesAt all i a → BeginsWalk (IsBelow a bound) (Between first.series) bound first
+      first_walk : (a : Event) → IsSeriesAt all i a → BeginsAtFirst (IsBelow a bound) (Between first.series) bound first
       first_walk a here = begins a here (known_at all drawable i a here)
 
-      second_walk : (b : Event) → IsSeriesAt all j b → BeginsWalk (IsBelow b bound) (Coming second.series) bound second
+      second_walk : (b : Event) → IsSeriesAt all j b → BeginsAtFirst (IsBelow b bound) (Coming second.series) bound second
       second_walk b there = starts b (subst (λ (c : Confirmed). IsSeriesAt c j b) (sym same) there) (known_at all drawable j b there)
 
-  module _ (place : IsPlace (length all.series) i) (calendar : Confirmed) (Coming : ℕ → ℤ → ℤ → Type 0) (old new : ℕ) (first second : Walk)
+  module _ (place : IsPlaceOfSeries (length all.series) i) (calendar : Confirmed) (Coming : ℕ → ℤ → ℤ → Type 0) (old new : ℕ) (first second : Walk)
       (at : IsPairAt all i j bound calendar Coming old new first second) where
     pub pair_apart : first.next ≡ None → second.next ≡ None → (a b : Event) → IsSeriesAt all i a → IsSeriesAt all j b → AreApart a b bound
     pair_apart end over a b here there x y h k share =
@@ -314,13 +314,13 @@ module _ (all : Confirmed) (drawable : IsDrawable all) (i j : ℕ) (bound : ℤ)
       pub pair_found : MeetsLast second.last next → (a b : Event) → IsSeriesAt all i a → IsSeriesAt all j b → HaveShared a b bound
       pair_found m a b here there =
           let own = next_of (IsBelow a bound) (Coming first.series) bound first next (at.in_first a here) is in
-          let starts : walk_place bound first.next ≡ next.start = ap (walk_place bound) is in
-          let f = met (IsBelow b bound) (walk_place bound second.next) second.last (at.in_second b there).last next
+          let starts : place_of_walk bound first.next ≡ next.start = ap (place_of_walk bound) is in
+          let f = met (IsBelow b bound) (place_of_walk bound second.next) second.last (at.in_second b there).last next
           (λ u v k. let l = (at.abreast a b here there).second u v k in omega (arith, ints, l, starts)) (start_before a bound next.start next.end (known_at all drawable i a here) own) m in
           have_shared a b bound next.start next.end m.0.start m.0.end own f.0.0 (turned m.0.start m.0.end next.start next.end f.1)
 
       pub pair_some : MeetsLast second.last next → (a b : Event) → IsSeriesAt all i a → IsSeriesAt all j b → (xs ys : List SaidInstance) → AreBelow a bound xs → AreBelow b bound ys
-          → AreDrawn true old new (length xs + length ys)
+          → IsCountDrawn true old new (length xs + length ys)
       pair_some m a b here there xs ys of_a of_b =
           let x = some_counted a (known_at all drawable i a here) bound xs of_a (Coming first.series) first (at.in_first a here) in
           let y = some_counted b (known_at all drawable j b there) bound ys of_b (Coming second.series) second (at.in_second b there) in
@@ -331,15 +331,15 @@ module _ (all : Confirmed) (drawable : IsDrawable all) (i j : ℕ) (bound : ℤ)
             at.count a b here there xs ys of_a of_b,
           )
 
-      pub pair_fewer : (Left : ℤ → ℤ → Type 0) (past : Walk) → ((a : Event) (b : ℤ) → AreKnownByStart a → IsWalkOf (IsBelow a b) (Coming first.series) b first → GoesPast (IsBelow a b) Left b next first past)
+      pub pair_fewer : (Left : ℤ → ℤ → Type 0) (past : Walk) → ((a : Event) (b : ℤ) → AreKnownByStart a → IsWalkThrough (IsBelow a b) (Coming first.series) b first → PassesOne (IsBelow a b) Left b next first past)
           → steps_left bound past < steps_left bound first
       pair_fewer Left past goes =
           let (a, here) = series_there all i place in
           fewer_left a Left bound next first past (goes a bound (known_at all drawable i a here) (at.in_first a here))
 
       pub pair_past : i ≢ j → IfSome second.next (λ y. next.start ≤ℤ y.start) → (calendar' : Confirmed) (Left : ℕ → ℤ → ℤ → Type 0) (after : ℕ) (past : Walk)
-          → calendar' ≡ calendar → past.series ≡ first.series → MeetsNone second.last next
-          → ((a : Event) (b : ℤ) → AreKnownByStart a → IsWalkOf (IsBelow a b) (Coming first.series) b first → GoesPast (IsBelow a b) (Left past.series) b next first past)
+          → calendar' ≡ calendar → past.series ≡ first.series → SharesWithNone second.last next
+          → ((a : Event) (b : ℤ) → AreKnownByStart a → IsWalkThrough (IsBelow a b) (Coming first.series) b first → PassesOne (IsBelow a b) (Left past.series) b next first past)
           → ((k : ℕ) → k ≢ first.series → (s e : ℤ) → Left k s e ↔ Coming k s e)
           → after ≡ drawn_more new (one_if past.next) → IsPairAt all i j bound calendar' Left old after past second
       pair_past differ turn calendar' Left after past same series none goes others counted = record {
@@ -350,12 +350,12 @@ module _ (all : Confirmed) (drawable : IsDrawable all) (i j : ℕ) (bound : ℤ)
         in_second = λ b there. still (IsBelow b bound) (Coming second.series) (Left second.series) bound second (others second.series (λ e. differ (sym at.first_series ∙ sym e ∙ at.second_series))) (at.in_second b there);
         abreast = λ a b here there.
             let l = at.abreast a b here there in
-            let starts : walk_place bound first.next ≡ next.start = ap (walk_place bound) is in
+            let starts : place_of_walk bound first.next ≡ next.start = ap (place_of_walk bound) is in
             let further = (gone a here).further in
             record {
               clear = λ s e u v h k share. elim ((gone a here).one s e h) [
                 | inl was ↦ l.clear s e u v was k share
-                | inr x ↦ meets_none (IsBelow b bound) (walk_place bound second.next) second.last (at.in_second b there).last next none u v k
+                | inr x ↦ meets_none (IsBelow b bound) (place_of_walk bound second.next) second.last (at.in_second b there).last next none u v k
                     (turned next.start next.end u v (subst (λ z. SharesInstant z next.end u v) x.0 (subst (λ z. SharesInstant s z u v) x.1 share)))
               ];
               first = λ s e h. elim ((gone a here).one s e h) [
@@ -370,10 +370,10 @@ module _ (all : Confirmed) (drawable : IsDrawable all) (i j : ℕ) (bound : ℤ)
             omega (arith, more, was, counted);
       }
         where
-          gone : (a : Event) → IsSeriesAt all i a → GoesPast (IsBelow a bound) (Left past.series) bound next first past
+          gone : (a : Event) → IsSeriesAt all i a → PassesOne (IsBelow a bound) (Left past.series) bound next first past
           gone a here = goes a bound (known_at all drawable i a here) (at.in_first a here)
 
-          before : (o : Option Span) → IfSome o (λ y. next.start ≤ℤ y.start) → next.start <ℤ bound → next.start ≤ℤ walk_place bound o
+          before : (o : Option Span) → IfSome o (λ y. next.start ≤ℤ y.start) → next.start <ℤ bound → next.start ≤ℤ place_of_walk bound o
           before None h l = omega (arith, ints, l)
           before (Some y) h l = h
 
@@ -386,5 +386,5 @@ have_turned a b bound h = record {
   shared = turned h.x.start h.x.end h.y.start h.y.end h.shared;
 }
 
-pub some_turned : (old new m n : ℕ) → AreDrawn true old new (m + n) → AreDrawn true old new (n + m)
+pub some_turned : (old new m n : ℕ) → IsCountDrawn true old new (m + n) → IsCountDrawn true old new (n + m)
 some_turned old new m n (k, some, most, is) = (k, some, omega (arith, most), is)

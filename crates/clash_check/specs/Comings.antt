@@ -17,13 +17,13 @@ abbrev pub item_of : ℕ → Span → Reverse Next
 item_of series x = record { 0 = record { start = x.start; end = x.end; series = series } }
 
 -- when it starts and ends
-abbrev pub span_at : Reverse Next → Span
-span_at h = record { start = h.0.start; end = h.0.end }
+abbrev pub span_of_next : Reverse Next → Span
+span_of_next h = record { start = h.0.start; end = h.0.end }
 
 -- it was put to those of others, where there is one
-abbrev pub IsPut : ℕ → Option Span → List (Reverse Next) → List (Reverse Next) → Type 0
-IsPut series None old new = new ≡ old
-IsPut series (Some x) old new = IsPermutation (item_of series x ∷ old) new
+abbrev pub IsPutBack : ℕ → Option Span → List (Reverse Next) → List (Reverse Next) → Type 0
+IsPutBack series None old new = new ≡ old
+IsPutBack series (Some x) old new = IsPermutation (item_of series x ∷ old) new
 
 -- the first of those that come is drawn, where one comes, and put to the others
 pub record DrawsNext (Old New : ℤ → ℤ → Type 0) (old new : ℕ) (series : ℕ) (before after : List (Reverse Next)) : Type 0 where
@@ -31,4 +31,4 @@ pub record DrawsNext (Old New : ℤ → ℤ → Type 0) (old new : ℕ) (series 
   pub drawn : MatchOption found ((start end : ℤ) → Old start end → ⊥) (λ x. Old x.start x.end × ((start end : ℤ) → Old start end → x.start ≤ℤ start))
   pub coming : (start end : ℤ) → New start end ↔ (Old start end × IfSome found (λ x. x.start <ℤ start))
   pub count : new ≡ drawn_more old (one_if found)
-  pub put : IsPut series found before after
+  pub put : IsPutBack series found before after

@@ -12,16 +12,16 @@ use Rattle.cal_events.specs.Calendar.{HaveDifferentKeys, HaveOwnKeys}
 use Rattle.cal_events.specs.Series.{AreKnownByStart}
 
 -- one of n, counted from 1
-abbrev pub IsPlace : ℕ → ℕ → Type 0
-IsPlace n i = (0 < i) × (i ≤ n)
+abbrev pub IsPlaceOfSeries : ℕ → ℕ → Type 0
+IsPlaceOfSeries n i = (0 < i) × (i ≤ n)
 
 -- an instance of the series starts and ends then
-abbrev pub IsSpanOf : Event → ℤ → ℤ → Type 0
-IsSpanOf series start end = (b : Instance) × IsInstance series b × (b.start ≡ start) × (b.end ≡ end)
+abbrev pub IsInstanceSpan : Event → ℤ → ℤ → Type 0
+IsInstanceSpan series start end = (b : Instance) × IsInstance series b × (b.start ≡ start) × (b.end ≡ end)
 
 -- it starts from an instant on and before a bound
 abbrev pub IsSpanBetween : Event → ℤ → ℤ → ℤ → ℤ → Type 0
-IsSpanBetween series from bound start end = IsSpanOf series start end × (from ≤ℤ start) × (start <ℤ bound)
+IsSpanBetween series from bound start end = IsInstanceSpan series start end × (from ≤ℤ start) × (start <ℤ bound)
 
 -- the single at a place, counted from 1
 abbrev pub IsSingleAt : Confirmed → ℕ → Instance → Type 0

@@ -9,7 +9,7 @@ use Rattle.cal_events.specs.Event.{said_meeting}
 use Rattle.cal_events.specs.Left.{IsLeft}
 use Rattle.cal_events.specs.Instances.{IsAfter}
 use Rattle.cal_events.specs.declared.instances.Instances.{Instances}
-use Rattle.clash_check.specs.Draws.{IsSpanOf, IsSpanBetween}
+use Rattle.clash_check.specs.Draws.{IsInstanceSpan, IsSpanBetween}
 
 -- where one is open, the iterator is over the series at that place
 abbrev pub AreOfSeries : Confirmed → ℕ → Option Instances → Type 0
@@ -26,10 +26,10 @@ AllAreLeft from opened =
     → (IsAfter starts.after b.start b.key.slot → ⊥) → ⊥
 
 -- start and end of the first instance of a series that starts at an instant or later; none does
-abbrev pub IsFirstFrom : Event → ℤ → Option (ℤ × ℤ) → Type 0
-IsFirstFrom series from found =
+abbrev pub IsFirstSpanFrom : Event → ℤ → Option (ℤ × ℤ) → Type 0
+IsFirstSpanFrom series from found =
     MatchOption found ((b : Instance) → IsInstance series b → from ≤ℤ b.start → ⊥)
-    (λ p. IsSpanOf series p.0 p.1 × (from ≤ℤ p.0) × ((b : Instance) → IsInstance series b → from ≤ℤ b.start → p.0 ≤ℤ b.start))
+    (λ p. IsInstanceSpan series p.0 p.1 × (from ≤ℤ p.0) × ((b : Instance) → IsInstance series b → from ≤ℤ b.start → p.0 ≤ℤ b.start))
 
 -- start and end of the first that starts from an instant on and before a bound; none does
 abbrev pub IsFirstBetween : Event → ℤ → ℤ → Option (ℤ × ℤ) → Type 0

@@ -21,8 +21,8 @@ abbrev pub HasSharer : Event → ℤ → ℤ → Type 0
 HasSharer series start end = (b : Instance) × IsInstance series b × SharesInstant b.start b.end start end
 
 -- none does
-abbrev pub HasNoSharer : Event → ℤ → ℤ → Type 0
-HasNoSharer series start end = (b : Instance) → IsInstance series b → SharesInstant b.start b.end start end → ⊥
+abbrev pub IsSharedByNone : Event → ℤ → ℤ → Type 0
+IsSharedByNone series start end = (b : Instance) → IsInstance series b → SharesInstant b.start b.end start end → ⊥
 
 -- one of the spans has one of the series
 abbrev pub HasSharers : Event → List Span → Type 0
@@ -30,7 +30,7 @@ HasSharers series spans = (span : Span) × Contains spans span × HasSharer seri
 
 -- none has
 abbrev pub HasNoSharers : Event → List Span → Type 0
-HasNoSharers series spans = (span : Span) → Contains spans span → HasNoSharer series span.start span.end
+HasNoSharers series spans = (span : Span) → Contains spans span → IsSharedByNone series span.start span.end
 
 -- an instance of one of the series does
 abbrev pub HaveSharer : Confirmed → ℤ → ℤ → Type 0
@@ -65,7 +65,7 @@ abbrev pub AreSinglesDrawn : Confirmed → ℕ → ℕ → Type 0
 AreSinglesDrawn all old new = (n : ℕ) × (length all.singles ≤ n) × (n ≤ singles_count all) × IsMore old new n
 
 -- from there on what starts earlier is over by an instant, where nothing lasts longer than a width
-pub record IsEntry (instant width entry : ℤ) : Type 0 where
+pub record IsEntryInstant (instant width entry : ℤ) : Type 0 where
   pub before : entry ≤ℤ instant
   pub late : (instant -ℤ width) <ℤ entry
   pub early : (start : ℤ) → first_second ≤ℤ start → start <ℤ entry → start ≤ℤ (instant -ℤ width)

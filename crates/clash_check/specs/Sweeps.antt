@@ -32,9 +32,9 @@ abbrev pub IsApart : Event → ℤ → Type 0
 IsApart a bound = (x y : Instance) → StartsBelow a bound x → StartsBelow a bound y → x.key ≢ y.key → SharesInstant x.start x.end y.start y.end → ⊥
 
 -- where nothing was found all of these were drawn, else some of them, at least one
-abbrev pub AreDrawn : Bool → ℕ → ℕ → ℕ → Type 0
-AreDrawn true old new all = (n : ℕ) × (1 ≤ n) × (n ≤ all) × (new ≡ drawn_more old n)
-AreDrawn false old new all = new ≡ drawn_more old all
+abbrev pub IsCountDrawn : Bool → ℕ → ℕ → ℕ → Type 0
+IsCountDrawn true old new all = (n : ℕ) × (1 ≤ n) × (n ≤ all) × (new ≡ drawn_more old n)
+IsCountDrawn false old new all = new ≡ drawn_more old all
 
 -- no two instances clash that start before a bound, of one of these series and one of those
 abbrev pub HaveNoClash : (these those : List Event) → ℤ → Type 0

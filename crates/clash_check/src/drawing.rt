@@ -3,7 +3,7 @@ ghost use Rattle.std.specs.Prelude.{ℕ, ℤ, ◌≡◌, ◌<◌, ◌-◌, ◌<�
 ghost use Rattle.std.specs.List.{slice_get};
 ghost use Rattle.profile.specs.checker.Instances.{horizon};
 ghost use Rattle.profile.specs.events.Events.{Event};
-ghost use Rattle.clash_check.specs.Opened.{IsFirstFrom, IsFirstBetween};
+ghost use Rattle.clash_check.specs.Opened.{IsFirstSpanFrom, IsFirstBetween};
 ghost use Rattle.clash_check.specs.declared.open_series.OpenSeries.{OpenSeries};
 
 use crate::drawn::Drawn;
@@ -134,7 +134,7 @@ fn place_of(number: u64) -> usize
 /// Start and end of an instance, where it starts before a bound.
 fn before(bound: i64, found: Option<(i64, i64)>) -> Option<(i64, i64)>
     requires { IfSome found (λ p. p.0 <ℤ horizon) }
-    ensures first { (series : Event) (from : ℤ) → IsFirstFrom series from found → IsFirstBetween series from bound result }
+    ensures first { (series : Event) (from : ℤ) → IsFirstSpanFrom series from found → IsFirstBetween series from bound result }
     ensures early { IfSome result (λ p. p.0 <ℤ horizon) }
 {
     let (start, end) = found?;

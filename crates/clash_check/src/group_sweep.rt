@@ -7,8 +7,8 @@ ghost use Rattle.profile.specs.checker.Certificates.{AreSeriesAt};
 ghost use Rattle.profile.specs.events.Events.{Event};
 ghost use Rattle.profile.specs.events.Spans.{HaveClash};
 ghost use Rattle.clash_check.specs.Counted.{AreAllBelow};
-ghost use Rattle.clash_check.specs.Draws.{IsPlace};
-ghost use Rattle.clash_check.specs.Sweeps.{HaveNoClash, AreDrawn};
+ghost use Rattle.clash_check.specs.Draws.{IsPlaceOfSeries};
+ghost use Rattle.clash_check.specs.Sweeps.{HaveNoClash, IsCountDrawn};
 ghost use Rattle.clash_check.specs.Comings.{next_cmp, DrawsNext};
 
 use crate::drawn::Drawn;
@@ -46,14 +46,14 @@ pub(crate) fn sweep_group<D: Drawn>(
     members: &[u64],
     bound: i64,
 ) -> Result<bool, AllocError>
-    requires places { (i : ℕ) → Contains members.now i → IsPlace (length (D.calendar drawn.old).series) i }
+    requires places { (i : ℕ) → Contains members.now i → IsPlaceOfSeries (length (D.calendar drawn.old).series) i }
     requires ascending { AllPairs ◌<◌ members.now }
     ensures calendar { D.calendar drawn.new ≡ D.calendar drawn.old }
     ensures clash { IfOk result (λ found. (all : List Event) → AreSeriesAt (D.calendar drawn.old) members.now all
         → MatchBool found (HaveClash all all bound) (HaveNoClash all all bound)) }
     ensures count { IfOk result (λ found. (all : List Event) → AreSeriesAt (D.calendar drawn.old) members.now all
         → (lists : List (List Instance)) → AreAllBelow all bound lists
-        → AreDrawn found (D.count drawn.old) (D.count drawn.new) (sum_by length lists)) }
+        → IsCountDrawn found (D.count drawn.old) (D.count drawn.new) (sum_by length lists)) }
 {
     drawn.is_drawable();
     // Only for the proof: a count has 64 bits.
@@ -81,7 +81,7 @@ fn push_next<D: Drawn>(
     drawn: &mut D,
     series: u64,
 ) -> Result<(), AllocError>
-    requires { IsPlace (length (D.calendar drawn.old).series) series }
+    requires { IsPlaceOfSeries (length (D.calendar drawn.old).series) series }
     ensures calendar { D.calendar drawn.new ≡ D.calendar drawn.old }
     ensures next { OnOk result (DrawsNext (D.coming drawn.old series) (D.coming drawn.new series) (D.count drawn.old) (D.count drawn.new) series (heap_items coming.old) (heap_items coming.new)) }
     ensures others { (j : ℕ) → j ≢ series → (start end : ℤ) → D.coming drawn.new j start end ↔ D.coming drawn.old j start end }

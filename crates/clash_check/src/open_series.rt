@@ -3,7 +3,7 @@ ghost use Rattle.std.specs.Prelude.{◌≡◌, ◌≢◌, ◌<◌, ◌<ℤ◌, I
 ghost use Rattle.std.specs.List.{slice_get};
 ghost use Rattle.profile.specs.checker.Instances.{horizon};
 ghost use Rattle.profile.specs.events.Events.{Event};
-ghost use Rattle.clash_check.specs.Opened.{AreOfSeries, NoneIsBefore, AllAreLeft, IsFirstFrom};
+ghost use Rattle.clash_check.specs.Opened.{AreOfSeries, NoneIsBefore, AllAreLeft, IsFirstSpanFrom};
 
 use cal_events::{Calendar, Instances, known_by_start};
 
@@ -38,7 +38,7 @@ impl<'a> OpenSeries<'a> {
     pub(crate) fn first_from(&mut self, place: usize, from: i64) -> Option<(i64, i64)>
         requires { place < length self.old.calendar.now.series }
         ensures calendar { self.new.calendar.now ≡ self.old.calendar.now }
-        ensures first { (series : Event) → slice_get self.old.calendar.now.series place ≡ Some series → IsFirstFrom series from result }
+        ensures first { (series : Event) → slice_get self.old.calendar.now.series place ≡ Some series → IsFirstSpanFrom series from result }
         ensures early { IfSome result (λ p. p.0 <ℤ horizon) }
     {
         self.open(place, from);
@@ -76,7 +76,7 @@ impl<'a> OpenSeries<'a> {
     fn next(&mut self) -> Option<(i64, i64)>
         requires { self.old.starts ≢ None }
         ensures calendar { self.new.calendar.now ≡ self.old.calendar.now }
-        ensures first { (series : Event) → slice_get self.old.calendar.now.series self.old.place ≡ Some series → IsFirstFrom series self.old.from result }
+        ensures first { (series : Event) → slice_get self.old.calendar.now.series self.old.place ≡ Some series → IsFirstSpanFrom series self.old.from result }
         ensures early { IfSome result (λ p. p.0 <ℤ horizon) }
     {
         // Only for the proof: each is known by its start.

@@ -8,7 +8,7 @@ ghost use Rattle.profile.specs.text.Values.{IsClockSeconds};
 ghost use Rattle.clash_cert.specs.Texts.{entry_said};
 ghost use Rattle.clash_check.specs.Counted.{AreBelow, IsEntryCount, pair_count};
 ghost use Rattle.clash_check.specs.Entries.{IsEntryDrawn};
-ghost use Rattle.clash_check.specs.Sweeps.{AreDrawn};
+ghost use Rattle.clash_check.specs.Sweeps.{IsCountDrawn};
 
 use crate::drawn::Drawn;
 use crate::residues::residues_hold;
@@ -72,7 +72,7 @@ fn are_clear<D: Drawn>(drawn: &mut D, i: u64, j: u64, bound: i64) -> bool
         → MatchBool result (AreClear (StartsBelow a bound) (StartsBelow b bound)) (HasClash (StartsBelow a bound) (StartsBelow b bound)) }
     ensures count { (a b : Event) → IsSeriesAt (D.calendar drawn.old) i a → IsSeriesAt (D.calendar drawn.old) j b
         → (xs ys : List Instance) → AreBelow a bound xs → AreBelow b bound ys
-        → AreDrawn (not result) (D.count drawn.old) (D.count drawn.new) (pair_count i j (length xs) (length ys)) }
+        → IsCountDrawn (not result) (D.count drawn.old) (D.count drawn.new) (pair_count i j (length xs) (length ys)) }
 {
     drawn.is_drawable();
     if i == j {

@@ -4,22 +4,22 @@ ghost use Rattle.profile.specs.checker.Instances.{Instance};
 ghost use Rattle.profile.specs.checker.Certificates.{IsSeriesAt};
 ghost use Rattle.profile.specs.events.Events.{Event};
 ghost use Rattle.clash_check.specs.Counted.{AreBelow};
-ghost use Rattle.clash_check.specs.Draws.{IsPlace};
-ghost use Rattle.clash_check.specs.Sweeps.{HaveShared, AreApart, HasShared, IsApart, AreDrawn};
+ghost use Rattle.clash_check.specs.Draws.{IsPlaceOfSeries};
+ghost use Rattle.clash_check.specs.Sweeps.{HaveShared, AreApart, HasShared, IsApart, IsCountDrawn};
 
 use crate::drawn::Drawn;
 use crate::walk::{Turn, Walk, turn_of};
 
 /// Does an instance of the one share an instant before the horizon with an instance of the other? On no all of both were drawn, on yes some.
 pub(crate) fn sweep_pair<D: Drawn>(drawn: &mut D, i: u64, j: u64, bound: i64) -> bool
-    requires first { IsPlace (length (D.calendar drawn.old).series) i }
-    requires second { IsPlace (length (D.calendar drawn.old).series) j }
+    requires first { IsPlaceOfSeries (length (D.calendar drawn.old).series) i }
+    requires second { IsPlaceOfSeries (length (D.calendar drawn.old).series) j }
     requires two { i ≢ j }
     ensures calendar { D.calendar drawn.new ≡ D.calendar drawn.old }
     ensures shared { (a b : Event) → IsSeriesAt (D.calendar drawn.old) i a → IsSeriesAt (D.calendar drawn.old) j b
         → MatchBool result (HaveShared a b bound) (AreApart a b bound) }
     ensures count { (a b : Event) → IsSeriesAt (D.calendar drawn.old) i a → IsSeriesAt (D.calendar drawn.old) j b
-        → (xs ys : List Instance) → AreBelow a bound xs → AreBelow b bound ys → AreDrawn result (D.count drawn.old) (D.count drawn.new) (length xs + length ys) }
+        → (xs ys : List Instance) → AreBelow a bound xs → AreBelow b bound ys → IsCountDrawn result (D.count drawn.old) (D.count drawn.new) (length xs + length ys) }
 {
     drawn.is_drawable();
     let mut first = Walk::begin(drawn, i, bound);
@@ -45,11 +45,11 @@ pub(crate) fn sweep_pair<D: Drawn>(drawn: &mut D, i: u64, j: u64, bound: i64) ->
 
 /// Do two instances of a series share an instant before the horizon? On no all of it were drawn, on yes some.
 pub(crate) fn sweep_alone<D: Drawn>(drawn: &mut D, i: u64, bound: i64) -> bool
-    requires { IsPlace (length (D.calendar drawn.old).series) i }
+    requires { IsPlaceOfSeries (length (D.calendar drawn.old).series) i }
     ensures calendar { D.calendar drawn.new ≡ D.calendar drawn.old }
     ensures shared { (a : Event) → IsSeriesAt (D.calendar drawn.old) i a → MatchBool result (HasShared a bound) (IsApart a bound) }
     ensures count { (a : Event) → IsSeriesAt (D.calendar drawn.old) i a
-        → (xs : List Instance) → AreBelow a bound xs → AreDrawn result (D.count drawn.old) (D.count drawn.new) (length xs) }
+        → (xs : List Instance) → AreBelow a bound xs → IsCountDrawn result (D.count drawn.old) (D.count drawn.new) (length xs) }
 {
     drawn.is_drawable();
     let mut walk = Walk::begin(drawn, i, bound);

@@ -3,8 +3,8 @@ ghost use Rattle.std.specs.Prelude.{ℕ, ℤ, ◌≡◌, ◌≢◌, ◌↔◌, �
 ghost use Rattle.profile.specs.checker.Certificates.{IsSeriesAt};
 ghost use Rattle.profile.specs.events.Events.{Event};
 ghost use Rattle.cal_events.specs.Series.{AreKnownByStart};
-ghost use Rattle.clash_check.specs.Draws.{IsPlace, drawn_more, one_if};
-ghost use Rattle.clash_check.specs.Walks.{IsBelow, BeginsWalk, IsWalkOf, GoesPast, MeetsLast, MeetsNone, EndsLater, IsTurn};
+ghost use Rattle.clash_check.specs.Draws.{IsPlaceOfSeries, drawn_more, one_if};
+ghost use Rattle.clash_check.specs.Walks.{IsBelow, BeginsAtFirst, IsWalkThrough, PassesOne, MeetsLast, SharesWithNone, IsLaterEnd, IsNextTurn};
 
 use crate::drawn::Drawn;
 use cal_events::Span;
@@ -23,11 +23,11 @@ pub(crate) struct Walk {
 impl Walk {
     /// A walk that is at the first of those that start before a bound.
     pub(crate) fn begin<D: Drawn>(drawn: &mut D, series: u64, bound: i64) -> Walk
-        requires { IsPlace (length (D.calendar drawn.old).series) series }
+        requires { IsPlaceOfSeries (length (D.calendar drawn.old).series) series }
         ensures calendar { D.calendar drawn.new ≡ D.calendar drawn.old }
         ensures series { result.series ≡ series }
         ensures begins { (a : Event) → IsSeriesAt (D.calendar drawn.old) series a → AreKnownByStart a
-            → BeginsWalk (IsBelow a bound) (D.coming drawn.new result.series) bound result }
+            → BeginsAtFirst (IsBelow a bound) (D.coming drawn.new result.series) bound result }
         ensures count { D.count drawn.new ≡ drawn_more (D.count drawn.old) (one_if result.next) }
         ensures others { (j : ℕ) → j ≢ series → (start end : ℤ) → D.coming drawn.new j start end ↔ D.coming drawn.old j start end }
     {
@@ -42,12 +42,12 @@ impl Walk {
 
     /// Past its next instance: the one after that is drawn.
     pub(crate) fn past<D: Drawn>(self, drawn: &mut D, next: Span) -> Walk
-        requires place { IsPlace (length (D.calendar drawn.old).series) self.series }
+        requires place { IsPlaceOfSeries (length (D.calendar drawn.old).series) self.series }
         requires next { self.next ≡ Some next }
         ensures calendar { D.calendar drawn.new ≡ D.calendar drawn.old }
         ensures series { result.series ≡ self.series }
-        ensures past { (a : Event) (bound : ℤ) → AreKnownByStart a → IsWalkOf (IsBelow a bound) (D.coming drawn.old self.series) bound self
-            → GoesPast (IsBelow a bound) (D.coming drawn.new result.series) bound next self result }
+        ensures past { (a : Event) (bound : ℤ) → AreKnownByStart a → IsWalkThrough (IsBelow a bound) (D.coming drawn.old self.series) bound self
+            → PassesOne (IsBelow a bound) (D.coming drawn.new result.series) bound next self result }
         ensures count { D.count drawn.new ≡ drawn_more (D.count drawn.old) (one_if result.next) }
         ensures others { (j : ℕ) → j ≢ self.series → (start end : ℤ) → D.coming drawn.new j start end ↔ D.coming drawn.old j start end }
     {
@@ -61,7 +61,7 @@ impl Walk {
 
     /// Whether one behind is still going on when another starts. One of no length starts in none.
     pub(crate) fn is_met_by(&self, other: Span) -> bool
-        ensures { MatchBool result (MeetsLast self.now.last other) (MeetsNone self.now.last other) }
+        ensures { MatchBool result (MeetsLast self.now.last other) (SharesWithNone self.now.last other) }
     {
         meets(self.last, other)
     }
@@ -69,7 +69,7 @@ impl Walk {
 
 /// Whether the one of those behind that ends last is still going on when another starts. One of no length starts in none.
 pub(crate) fn meets(last: Option<Span>, other: Span) -> bool
-    ensures { MatchBool result (MeetsLast last other) (MeetsNone last other) }
+    ensures { MatchBool result (MeetsLast last other) (SharesWithNone last other) }
 {
     match last {
         Some(last) => other.start < other.end && other.start < last.end,
@@ -79,7 +79,7 @@ pub(crate) fn meets(last: Option<Span>, other: Span) -> bool
 
 /// The next instance of a series; None where no more comes.
 pub(crate) fn draw_span<D: Drawn>(drawn: &mut D, series: u64) -> Option<Span>
-    requires { IsPlace (length (D.calendar drawn.old).series) series }
+    requires { IsPlaceOfSeries (length (D.calendar drawn.old).series) series }
     ensures calendar { D.calendar drawn.new ≡ D.calendar drawn.old }
     ensures count { D.count drawn.new ≡ drawn_more (D.count drawn.old) (one_if result) }
     ensures drawn { MatchOption result ((start end : ℤ) → D.coming drawn.old series start end → ⊥)
@@ -95,7 +95,7 @@ pub(crate) fn draw_span<D: Drawn>(drawn: &mut D, series: u64) -> Option<Span>
 
 /// The one that ends last, of one and of another, where there is one.
 pub(crate) fn later_end(last: Option<Span>, next: Span) -> Span
-    ensures { EndsLater last next result }
+    ensures { IsLaterEnd last next result }
 {
     match last {
         Some(last) if last.end >= next.end => last,
@@ -114,7 +114,7 @@ pub(crate) enum Turn {
 
 /// The turn of the walk of which the next instance starts earlier.
 pub(crate) fn turn_of(first: &Walk, second: &Walk) -> Turn
-    ensures { IsTurn first.now second.now result }
+    ensures { IsNextTurn first.now second.now result }
 {
     match (first.next, second.next) {
         (Some(x), Some(y)) if y.start < x.start => Turn::Second(y),

@@ -23,3 +23,4 @@ pub mod MeetingLines
 pub mod MessageLemmas
 pub mod PlacedUtc
 pub mod TimesApart
+pub mod ToldSlots

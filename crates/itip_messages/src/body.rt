@@ -10,14 +10,14 @@ ghost use Rattle.profile.specs.series.Rules as rules;
 ghost use Rattle.profile.specs.events.Properties.{BothOrNeither};
 ghost use Rattle.profile.specs.events.ZonedTimes.{SpellsMidnight, clock_of};
 ghost use Rattle.profile.specs.series.Days.{day_index};
-ghost use Rattle.profile.specs.rooms.Messages.{AreAscending, Content, IsContent, WritesEnd, WritesFixedEnd, canonical, instants_in, is_in_dates, list_lines, may_take};
+ghost use Rattle.profile.specs.rooms.Messages.{AreAscending, Content, IsContent, WritesEnd, WritesFixedEnd, canonical, instants_in, list_lines, may_take};
 ghost use Rattle.cal_rules.specs.Views.{until_of};
 ghost use Rattle.cal_zones.specs.Kinds.{zone_of};
 ghost use Rattle.cal_events.specs.Component.{component_of, form_of, form_said, time_of, times_of, zone_said};
 ghost use Rattle.itip_messages.specs.Body.{AppendsListed, AppendsOthers, AppendsRule, AppendsStart, AppendsTimes, AppendsZone, AreShowable, EndIsTold, IsCanonical, IsCutAtZone, IsFixedTold, IsMidnight, IsReady, IsShowable, IsTold, StartIsWhole, crlf_lines, name_as, writes_as, zone_place};
 
 use cal_days::Day;
-use cal_events::{EventComponent, EventTimes, FIRST_SECOND, Form, HORIZON, Time, When, as_end};
+use cal_events::{EventComponent, EventTimes, Form, Time, When, as_end, is_in_event_dates};
 use cal_rules::{Rule, Until};
 use cal_zones::Zone;
 use ical_values::shown::{date_text, stamp_text};
@@ -310,13 +310,7 @@ fn that_may_take(alloc: Global, times: &[Time]) -> Result<Vec<Time>, AllocError>
 fn may_take(time: &Time) -> bool
     ensures { result ≡ may_take (time_of time.now) }
 {
-    time.form != Form::Fixed || is_in_dates(time.instant)
-}
-
-fn is_in_dates(instant: i64) -> bool
-    ensures { result ≡ is_in_dates instant }
-{
-    instant < HORIZON && instant >= FIRST_SECOND
+    time.form != Form::Fixed || is_in_event_dates(time.instant)
 }
 
 /// The VTIMEZONE that DTSTART is in, under the name `Z`; nothing where it is in none.

@@ -1,5 +1,5 @@
 //! The lines of a body as they are in an object: each folded, with DTSTART in the zone under its number in that object (RFC 5545 3.8.2.4).
-ghost use Rattle.std.specs.Prelude.{◌≡◌, ◌++◌, ℕ, Some, codes, string_bytes, IfOk, OnOk};
+ghost use Rattle.std.specs.Prelude.{◌≡◌, ◌++◌, ℕ, Some, codes, string_bytes, IfOk, OnOk, OnErr};
 ghost use Rattle.std.specs.Str.Lines.{lines};
 ghost use Rattle.profile.specs.rooms.Kept.{renamed};
 ghost use Rattle.profile.specs.text.Lines.{folded, written};
@@ -16,21 +16,27 @@ use std::str;
 const ZONE_HEAD: usize = 25;
 
 /// The lines of a body, each folded as it is written, with DTSTART in the zone under its number. A body that isn't
-/// UTF-8 has none.
+/// UTF-8 has none. Where the memory for them is refused, `object` and `zones` are as they were.
 pub fn write_body(
     object: &mut ObjectWriter,
     zones: &mut Zones,
     body: &[u8],
 ) -> Result<(), AllocError>
-    ensures { OnOk result (WritesBody body.now zones.old zones.new object.old object.new) }
+    ensures ok { OnOk result (WritesBody body.now zones.old zones.new object.old object.new) }
+    ensures object_err { OnErr result (object.new ≡ object.old) }
+    ensures zones_err { OnErr result (zones.new ≡ zones.old) }
 {
     let (lines, zone) = body.split_at(zone_lines(body));
     if zone.is_empty() {
         write_text(object, lines, None)?;
         return Ok(());
     }
+    let known = zones.len();
     let number = zones.number_of(&zone[ZONE_HEAD.min(zone.len())..])?;
-    write_text(object, lines, Some(number))?;
+    if let Err(error) = write_text(object, lines, Some(number)) {
+        zones.truncate(known);
+        return Err(error);
+    }
     Ok(())
 }
 
@@ -41,7 +47,8 @@ fn write_text(
     octets: &[u8],
     number: Option<usize>,
 ) -> Result<(), AllocError>
-    ensures { OnOk result (WritesText number octets.now object.old object.new) }
+    ensures ok { OnOk result (WritesText number octets.now object.old object.new) }
+    ensures err { OnErr result (object.new ≡ object.old) }
 {
     let Ok(text) = str::from_utf8(octets) else {
         return Ok(());
@@ -54,28 +61,39 @@ fn write_text(
 
 /// The lines of a text, each folded as it is written.
 fn write_lines(object: &mut ObjectWriter, text: &str) -> Result<(), AllocError>
-    ensures { OnOk result (object.new ≡ object.old ++ written (lines text.now)) }
+    ensures ok { OnOk result (object.new ≡ object.old ++ written (lines text.now)) }
+    ensures err { OnErr result (object.new ≡ object.old) }
 {
+    let kept = object.len();
     for line in text.lines() {
-        object.line(line)?;
+        if let Err(error) = object.line(line) {
+            object.truncate(kept);
+            return Err(error);
+        }
     }
     Ok(())
 }
 
 /// The same, where DTSTART is in the zone of this number.
 fn write_in_zone(object: &mut ObjectWriter, text: &str, number: usize) -> Result<(), AllocError>
-    ensures { OnOk result (object.new ≡ object.old ++ written (named_lines (name_of (Some number)) (lines text.now))) }
+    ensures ok { OnOk result (object.new ≡ object.old ++ written (named_lines (name_of (Some number)) (lines text.now))) }
+    ensures err { OnErr result (object.new ≡ object.old) }
 {
     let start = start_in(object.alloc(), number)?;
+    let kept = object.len();
     for line in text.lines() {
-        write_named(object, line, start.as_str())?;
+        if let Err(error) = write_named(object, line, start.as_str()) {
+            object.truncate(kept);
+            return Err(error);
+        }
     }
     Ok(())
 }
 
 /// One line, which begins so where it is DTSTART in a zone.
 fn write_named(object: &mut ObjectWriter, line: &str, start: &str) -> Result<(), AllocError>
-    ensures { OnOk result (object.new ≡ object.old ++ folded (renamed (codes "DTSTART;TZID=Z") start.now line.now)) }
+    ensures ok { OnOk result (object.new ≡ object.old ++ folded (renamed (codes "DTSTART;TZID=Z") start.now line.now)) }
+    ensures err { OnErr result (object.new ≡ object.old) }
 {
     match line.strip_prefix("DTSTART;TZID=Z") {
         Some(rest) => object.named(start, rest),

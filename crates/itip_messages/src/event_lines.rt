@@ -1,5 +1,5 @@
 //! Lines of the VEVENTs that a room keeps and an organiser writes (RFC 5545 3.8).
-ghost use Rattle.std.specs.Prelude.{◌≡◌, ◌++◌, OnOk};
+ghost use Rattle.std.specs.Prelude.{◌≡◌, ◌++◌, OnOk, OnErr};
 ghost use Rattle.profile.specs.text.Lines.{written};
 ghost use Rattle.profile.specs.rooms.Revisions.{At};
 ghost use Rattle.profile.specs.organisers.Sent.{TellsRevision, status_lines};
@@ -12,9 +12,11 @@ use ical_values::Stamp;
 use itip_order::{Revision, Slot};
 use std::alloc::AllocError;
 
-/// RECURRENCE-ID, for one instance (RFC 5545 3.8.4.4). One at an instant that no stamp can write has none.
+/// RECURRENCE-ID, for one instance (RFC 5545 3.8.4.4). One at an instant that no stamp can write has none. Where the memory for it is
+/// refused, `object` is as it was.
 pub fn write_slot(object: &mut ObjectWriter, slot: Slot) -> Result<(), AllocError>
-    ensures { OnOk result (WritesSlot (slot_of slot) object.old object.new) }
+    ensures ok { OnOk result (WritesSlot (slot_of slot) object.old object.new) }
+    ensures err { OnErr result (object.new ≡ object.old) }
 {
     match slot {
         Slot::Whole => Ok(()),
@@ -23,7 +25,8 @@ pub fn write_slot(object: &mut ObjectWriter, slot: Slot) -> Result<(), AllocErro
 }
 
 fn write_instance(object: &mut ObjectWriter, instant: i64) -> Result<(), AllocError>
-    ensures { OnOk result (WritesSlot (At instant) object.old object.new) }
+    ensures ok { OnOk result (WritesSlot (At instant) object.old object.new) }
+    ensures err { OnErr result (object.new ≡ object.old) }
 {
     let Some(stamp) = Stamp::of_instant(instant) else {
         return Ok(());

@@ -39,14 +39,15 @@ pub trait AttendeeLines {
     // The line of an attendee of that slot.
     ghost line: { Self → revisions.Slot → events.Attendee → List ℕ → Type 0 };
 
-    /// Writes the line of an attendee of a VEVENT of this slot. On an error some of it may have been written.
+    /// Writes the line of an attendee of a VEVENT of this slot. Where the memory for it is refused, `object` is as it was.
     fn write_line(
         &self,
         object: &mut ObjectWriter,
         slot: Slot,
         attendee: &Attendee,
     ) -> Result<(), AllocError>
-        ensures { OnOk result (WritesLine (Self.line self.now (slot_of slot) (attendee_of attendee.now)) object.old object.new) };
+        ensures ok { OnOk result (WritesLine (Self.line self.now (slot_of slot) (attendee_of attendee.now)) object.old object.new) }
+        ensures err { OnErr result (object.new ≡ object.old) };
 }
 
 /// Each attendee is asked to answer (RFC 5545 3.2.12, 3.2.17).

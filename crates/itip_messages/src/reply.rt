@@ -1,5 +1,5 @@
 //! Replies of a room (RFC 5546 3.2.3): one VEVENT for each part that was decided.
-ghost use Rattle.std.specs.Prelude.{◌≡◌, ◌↔◌, ◌++◌, ◌∷◌, [], ◌<◌, true, string_bytes, IsSome, IfSome, OnOk, OnErr};
+ghost use Rattle.std.specs.Prelude.{◌≡◌, ◌↔◌, ◌++◌, ◌∷◌, [], ◌<◌, true, string_bytes, length, take, IsSome, IfSome, OnOk, OnErr};
 ghost use Rattle.profile.specs.text.Lines.{folded};
 ghost use Rattle.profile.specs.text.Values.{IsClockSeconds, WritesStamp};
 ghost use Rattle.profile.specs.rooms.Messages.{TellsSlot, TellsOutcome, IsKeyText, word, word_octet, is_word_octet, hexadecimal};
@@ -107,9 +107,23 @@ fn write_events(object: &mut ObjectWriter, events: &[ReplyEvent<'_>]) -> Result<
     Ok(())
 }
 
-/// Writes the VEVENT of one event. On an error some of its lines may have been written.
+/// Writes the VEVENT of one event. Where the memory for it is refused, `object` is as it was.
 pub fn write_event(object: &mut ObjectWriter, event: &ReplyEvent<'_>) -> Result<(), AllocError>
-    ensures { OnOk result (WritesLines object.old object.new (IsWrittenEvent event.now)) }
+    ensures ok { OnOk result (WritesLines object.old object.new (IsWrittenEvent event.now)) }
+    ensures err { OnErr result (object.new ≡ object.old) }
+{
+    let kept = object.len();
+    if let Err(error) = write_all_lines(object, event) {
+        object.truncate(kept);
+        return Err(error);
+    }
+    Ok(())
+}
+
+/// As `write_event`. On an error some of its lines may have been written.
+fn write_all_lines(object: &mut ObjectWriter, event: &ReplyEvent<'_>) -> Result<(), AllocError>
+    ensures ok { OnOk result (WritesLines object.old object.new (IsWrittenEvent event.now)) }
+    ensures keeps { take (length object.old) object.new ≡ object.old }
 {
     object.line("BEGIN:VEVENT")?;
     object.uid(event.uid)?;
@@ -124,7 +138,8 @@ pub fn write_event(object: &mut ObjectWriter, event: &ReplyEvent<'_>) -> Result<
 }
 
 fn write_recurrence(object: &mut ObjectWriter, recurrence: Option<Stamp>) -> Result<(), AllocError>
-    ensures { OnOk result (WritesLines object.old object.new (TellsSlot (slot_at recurrence))) }
+    ensures ok { OnOk result (WritesLines object.old object.new (TellsSlot (slot_at recurrence))) }
+    ensures err { OnErr result (object.new ≡ object.old) }
 {
     match recurrence {
         Some(stamp) => object.stamp("RECURRENCE-ID:", stamp),
@@ -134,7 +149,8 @@ fn write_recurrence(object: &mut ObjectWriter, recurrence: Option<Stamp>) -> Res
 
 /// The room's own line, with its answer.
 fn write_attendee(object: &mut ObjectWriter, event: &ReplyEvent<'_>) -> Result<(), AllocError>
-    ensures { OnOk result (object.new ≡ object.old ++ folded (attendee_line event.now)) }
+    ensures ok { OnOk result (object.new ≡ object.old ++ folded (attendee_line event.now)) }
+    ensures err { OnErr result (object.new ≡ object.old) }
 {
     let name = match event.decision {
         Decision::Accepted => "ATTENDEE;PARTSTAT=ACCEPTED:",
@@ -144,7 +160,8 @@ fn write_attendee(object: &mut ObjectWriter, event: &ReplyEvent<'_>) -> Result<(
 }
 
 fn write_decision(object: &mut ObjectWriter, decision: &Decision<'_>) -> Result<(), AllocError>
-    ensures { OnOk result (WritesLines object.old object.new (TellsOutcome (decision_outcome decision.now))) }
+    ensures ok { OnOk result (WritesLines object.old object.new (TellsOutcome (decision_outcome decision.now))) }
+    ensures err { OnErr result (object.new ≡ object.old) }
 {
     match decision {
         Decision::Accepted => object.line("REQUEST-STATUS:2.0;Success"),
@@ -157,7 +174,8 @@ fn write_decision(object: &mut ObjectWriter, decision: &Decision<'_>) -> Result<
 /// The status of a decline (RFC 5545 3.8.8.3): its code, its text, and seven words, the instant and then slot,
 /// organiser and UID of each instance. The code's text and the words are this profile's choice.
 fn write_conflict(object: &mut ObjectWriter, conflict: &Conflict<'_>) -> Result<(), AllocError>
-    ensures { OnOk result (WritesLines object.old object.new (TellsOutcome (busy conflict.now))) }
+    ensures ok { OnOk result (WritesLines object.old object.new (TellsOutcome (busy conflict.now))) }
+    ensures err { OnErr result (object.new ≡ object.old) }
 {
     let alloc = object.alloc();
     let mut line = String::new(alloc);

@@ -52,16 +52,30 @@ impl ObjectWriter {
         *self.octets.allocator()
     }
 
+    /// How many octets are written.
+    pub(crate) fn len(&self) -> usize
+        ensures { result ≡ length self.now }
+    {
+        self.octets.len()
+    }
+
+    /// Takes back all but the first octets.
+    pub(crate) fn truncate(&mut self, kept: usize)
+        ensures { self.new ≡ take kept self.old }
+    {
+        self.octets.truncate(kept);
+    }
+
     /// The first lines of each object: BEGIN, VERSION and PRODID, and METHOD where there is one.
     pub fn begin_calendar(&mut self, method: Option<&str>) -> Result<(), AllocError>
         ensures ok { OnOk result (self.new ≡ self.old ++ written (opening_lines (option_map text_now method.entry))) }
         ensures err { OnErr result (self.new ≡ self.old) }
     {
-        let kept = self.octets.len();
+        let kept = self.len();
         match self.opening(method) {
             Ok(()) => Ok(()),
             Err(error) => {
-                self.octets.truncate(kept);
+                self.truncate(kept);
                 Err(error)
             }
         }

@@ -34,8 +34,8 @@ pub record IsPartOf (some all : List Single) : Type 0 where
   pub separate : AreSeparate all → AreSeparate some
 
 -- all of these go or are kept, in any order
-abbrev pub IsParted : List Single → List Single → List Single → Type 0
-IsParted all gone kept = IsPermutation all (gone ++ kept)
+abbrev pub IsPartedInto : List Single → List Single → List Single → Type 0
+IsPartedInto all gone kept = IsPermutation all (gone ++ kept)
 
 -- instances by their original starts, then by their spans
 abbrev pub single_cmp : Single → Single → Ordering
@@ -45,19 +45,19 @@ abbrev pub the_single : Single → Single
 the_single single = single
 
 -- of all of these some go, and the others are kept, both in their order
-pub data IsSplit : List Single → List Single → List Single → Type 0 where
-  none : IsSplit [] [] []
-  goes : (s : Single) (all gone kept : List Single) → IsSplit all gone kept → IsSplit (s ∷ all) (s ∷ gone) kept
-  stays : (s : Single) (all gone kept : List Single) → IsSplit all gone kept → IsSplit (s ∷ all) gone (s ∷ kept)
+pub data IsSplitInto : List Single → List Single → List Single → Type 0 where
+  none : IsSplitInto [] [] []
+  goes : (s : Single) (all gone kept : List Single) → IsSplitInto all gone kept → IsSplitInto (s ∷ all) (s ∷ gone) kept
+  stays : (s : Single) (all gone kept : List Single) → IsSplitInto all gone kept → IsSplitInto (s ∷ all) gone (s ∷ kept)
 
 -- what goes of these, where this many are left, comes after what went before
 pub record Sheds (all left old new : List Single) : Type 0 where
   pub gone : List Single
   pub is : new ≡ old ++ gone
-  pub split : IsSplit all gone left
+  pub split : IsSplitInto all gone left
 
 -- of all that was confirmed before these went, and the rest and what was added is all that is confirmed after
 pub record Shifts (before gone added after : List Single) : Type 0 where
   pub kept : List Single
-  pub parted : IsParted before gone kept
-  pub after_is : IsParted after kept added
+  pub parted : IsPartedInto before gone kept
+  pub after_is : IsPartedInto after kept added

@@ -42,19 +42,19 @@ AreBeside those all None = (single : Single) → those single → IsBesideOne si
 AreBeside those all (Some x) = those x.asked × IsAmong all x.other.now x.booked × Overlap x.asked.span x.booked.span
 
 -- no two instances of a series with different original starts share an instant, or these two do
-abbrev pub IsSharedAlone : Series → Option (Single × Single) → Type 0
-IsSharedAlone series None = (a b : Single) (t : ℤ) → Recurs series a → Recurs series b → a.slot ≢ b.slot → HaveInstant a.span b.span t → ⊥
-IsSharedAlone series (Some p) = Recurs series p.0 × Recurs series p.1 × (p.0.slot ≢ p.1.slot) × Overlap p.0.span p.1.span
+abbrev pub IsSharedByItself : Series → Option (Single × Single) → Type 0
+IsSharedByItself series None = (a b : Single) (t : ℤ) → Recurs series a → Recurs series b → a.slot ≢ b.slot → HaveInstant a.span b.span t → ⊥
+IsSharedByItself series (Some p) = Recurs series p.0 × Recurs series p.1 × (p.0.slot ≢ p.1.slot) × Overlap p.0.span p.1.span
 
 -- the two are of the series in a place: one of it and one of a series before it, or both of it
 pub record IsFoundAt (all : List Recurring) (place : ℕ) (recurring : Recurring) (x : SharedInstant) : Type 0 where
   pub at : slice_get all place ≡ Some recurring
-  pub found : AreBeside (Recurs recurring.series.now) (take place all) (Some x) ⊎ (IsSharedAlone recurring.series.now (Some (x.asked, x.booked)) × (x.other.now ≡ recurring.key.now))
+  pub found : AreBeside (Recurs recurring.series.now) (take place all) (Some x) ⊎ (IsSharedByItself recurring.series.now (Some (x.asked, x.booked)) × (x.other.now ≡ recurring.key.now))
 
 -- each series from a place on is clear of those before it and by itself, or two instances are named
 abbrev pub AreClearFrom : List Recurring → ℕ → Option SharedInstant → Type 0
 AreClearFrom all from None = (place : ℕ) (r : Recurring) → from ≤ place → slice_get all place ≡ Some r
-    → AreBeside (Recurs r.series.now) (take place all) None × IsSharedAlone r.series.now None
+    → AreBeside (Recurs r.series.now) (take place all) None × IsSharedByItself r.series.now None
 AreClearFrom all from (Some x) = (place : ℕ) × (r : Recurring) × (from ≤ place) × IsFoundAt all place r x
 
 -- all of these series, each of which may occur more than once

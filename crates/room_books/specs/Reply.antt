@@ -49,18 +49,18 @@ pub record ShowsGiven (room : List ℕ) (answers : List PartAnswer) (part : Part
   pub shows : IsReplyEvent room part given.moment (outcome_of given.outcome) lines
 
 -- the VEVENTs that give the answers to the parts of these claims
-abbrev pub AreTold : List ℕ → List PartAnswer → List (Bor Claim) → List (List (List ℕ)) → Type 0
-AreTold room answers are events = AllZip (λ claim lines. ShowsGiven room answers (part_of claim.now.part) lines) are events
+abbrev pub AreToldIn : List ℕ → List PartAnswer → List (Bor Claim) → List (List (List ℕ)) → Type 0
+AreToldIn room answers are events = AllZip (λ claim lines. ShowsGiven room answers (part_of claim.now.part) lines) are events
 
 -- new is old and those VEVENTs after it, written
 abbrev pub WritesAnswers : List ℕ → List PartAnswer → List (Bor Claim) → List ℕ → List ℕ → Type 0
 WritesAnswers room answers are old new =
-    (events : List (List (List ℕ))) × AreTold room answers are events × (new ≡ old ++ written (flat_map (λ lines. lines) events))
+    (events : List (List (List ℕ))) × AreToldIn room answers are events × (new ≡ old ++ written (flat_map (λ lines. lines) events))
 
 -- the octets are the REPLY of those VEVENTs
 pub record IsReplyOf (room : List ℕ) (answers : List PartAnswer) (are : List (Bor Claim)) (octets : List ℕ) : Type 0 where
   pub events : List (List (List ℕ))
-  pub each : AreTold room answers are events
+  pub each : AreToldIn room answers are events
   pub is : octets ≡ written (object_lines (Some (codes "REPLY")) (flat_map (λ lines. lines) events))
 
 -- the octets are the REFRESH for the meeting of the part

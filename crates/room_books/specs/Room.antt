@@ -27,7 +27,7 @@ use Rattle.room_books.specs.declared.kept.Changes.{Changes}
 use Rattle.room_books.specs.Slots.{Reordered, AllTouch}
 use Rattle.cal_events.specs.declared.instance.Single.{Single}
 use Rattle.room_books.specs.declared.meeting.PartAnswer.{PartAnswer}
-use Rattle.room_books.specs.Taking.{answers_by, answers_then, body_content, held_after, IsMade, OutcomeDated}
+use Rattle.room_books.specs.Taking.{answers_by, answers_then, body_content, held_after, IsMadeOf, OutcomeDated}
 use Rattle.room_books.specs.Meeting.{same_key, instance_list, series_list, outcome_of}
 
 -- ---- claims
@@ -42,10 +42,10 @@ Pairwise R [] = Unit {0}
 Pairwise R (x ∷ xs) = ((y : _) → Contains xs y → R x y) × Pairwise R xs
 
 -- a body's octets are text
-abbrev pub IsText : Body → Type 0
-IsText (Set octets) = IsUtf8 octets
-IsText Absent = Unit {0}
-IsText Cancelled = Unit {0}
+abbrev pub IsBodyText : Body → Type 0
+IsBodyText (Set octets) = IsUtf8 octets
+IsBodyText Absent = Unit {0}
+IsBodyText Cancelled = Unit {0}
 
 -- an instance of a part: of its meeting, and where the part is one instance, that one
 abbrev pub IsOfSlot : Slot → ℤ → Type 0
@@ -64,7 +64,7 @@ pub record IsFittingSeries (claim : Claim) (series : Series) : Type 0 where
 -- what a claim asks for is of its part: the content its body's, the instances of its meeting and slot, each once
 pub record IsFitting (claim : Claim) : Type 0 where
   pub content : claim.content ≡ body_content claim.part.body
-  pub text : IsText claim.part.body
+  pub text : IsBodyText claim.part.body
   pub organiser : (b : Instance) → Contains claim.singles b → b.key.organiser ≡ claim.part.organiser
   pub uid : (b : Instance) → Contains claim.singles b → b.key.uid ≡ claim.part.uid
   pub slot : (b : Instance) → Contains claim.singles b → IsOfSlot claim.part.slot b.key.slot
@@ -143,8 +143,8 @@ MeetsAt own key None = own.taken ≡ []
 MeetsAt own key (Some meeting) = Meets own key meeting
 
 -- where the meeting was that of its own book, and more of its parts were taken, all of these slots, these are the answers that stay
-abbrev pub KeepsAll : Part → List OwnSlot → Option Meeting → List Part → List PartAnswer → Type 0
-KeepsAll part slots before held kept =
+abbrev pub KeepsEach : Part → List OwnSlot → Option Meeting → List Part → List PartAnswer → Type 0
+KeepsEach part slots before held kept =
     (own : Book) (key : MeetingKey) (more : List Part) → is_of_meeting key part ≡ true → IsOwn key own → MeetsAt own key before → RepresentsHistory held (own.taken ++ more) → AllTouch slots more
     → AreGiven key (own.taken ++ more) (answers_in_view (own.taken ++ more) (answers_in_view own.taken own.answers)) kept
 
@@ -204,7 +204,7 @@ pub record IsMeetingAfter (book : Book) (key : MeetingKey) (claims : List Claim)
 -- the meetings after, where these parts of one were taken too, and its answers changed so
 pub record IsPutIn (key : MeetingKey) (more : List Part) (changes : Changes) (old new : List (MeetingKey × Meeting)) : Type 0 where
   pub meeting : Meeting
-  pub made : IsMade (held_after (lookup (same_key key) old) more) (answers_then (answers_by (lookup (same_key key) old)) changes) meeting
+  pub made : IsMadeOf (held_after (lookup (same_key key) old) more) (answers_then (answers_by (lookup (same_key key) old)) changes) meeting
   pub entries : new ≡ insert_entry same_key old key meeting
 
 -- the same of the meeting in a place
@@ -212,7 +212,7 @@ pub record IsRenewed (place : ℕ) (more : List Part) (changes : Changes) (old n
   pub before : Meeting
   pub meeting : Meeting
   pub was : slice_get (values_of old) place ≡ Some before
-  pub made : IsMade (together before.held more) (answers_then before.answers.items changes) meeting
+  pub made : IsMadeOf (together before.held more) (answers_then before.answers.items changes) meeting
   pub entries : new ≡ set_value_at old place meeting
 
 -- from the book a step with these claims leads to a book that the meetings represent

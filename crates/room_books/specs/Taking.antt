@@ -100,7 +100,7 @@ held_after None more = more
 held_after (Some meeting) more = together meeting.held more
 
 -- these parts are held of the meeting, and these are its answers
-pub record IsMade (held : List revisions.Part) (answers : List PartAnswer) (meeting : Meeting) : Type 0 where
+pub record IsMadeOf (held : List revisions.Part) (answers : List PartAnswer) (meeting : Meeting) : Type 0 where
   pub held_is : meeting.held ≡ held
   pub answers_are : Reordered answers meeting.answers.items
 
@@ -235,9 +235,9 @@ abbrev pub MayJoinAll : Confirmed → MeetingKey → List PartAnswer → Type 0
 MayJoinAll others key answers = SeriesMayJoin others key (all_singles answers) (all_series answers)
 
 -- the answers that stay, and those to the claims that are asked, decided as one
-abbrev pub IsAnswered : Confirmed → MeetingKey → List revisions.Part → ℤ → List PartAnswer → List (Bor Claim) → List PartAnswer → Option Outcome → Type 0
-IsAnswered others key held moment kept asked answers None = (asked ≡ []) × Reordered kept answers
-IsAnswered others key held moment kept asked answers (Some outcome) =
+abbrev pub AreAnswersDecided : Confirmed → MeetingKey → List revisions.Part → ℤ → List PartAnswer → List (Bor Claim) → List PartAnswer → Option Outcome → Type 0
+AreAnswersDecided others key held moment kept asked answers None = (asked ≡ []) × Reordered kept answers
+AreAnswersDecided others key held moment kept asked answers (Some outcome) =
     (asked ≢ []) × ((candidates : List PartAnswer) × (decided : List PartAnswer)
     × AllZip (λ claim given. IsAccepted held claim.now moment given) asked candidates
     × AllZip (λ candidate given. IsDecided candidate outcome given) candidates decided

@@ -22,19 +22,19 @@ use Rattle.room_books.specs.declared.kept.Meeting.{Meeting}
 use Rattle.room_books.specs.declared.meeting.MeetingKey.{MeetingKey}
 use Rattle.room_books.specs.declared.meeting.PartAnswer.{PartAnswer}
 use Rattle.profile.specs.streams.Streams.{IsReached}
-use Rattle.room_books.specs.Room.{IsText, SlotDated, Represents}
+use Rattle.room_books.specs.Room.{IsBodyText, SlotDated, Represents}
 use Rattle.room_books.specs.Taking.{body_content}
 use Rattle.room_books.specs.Meeting.{outcome_of}
 
 -- ---- by the book
 
 -- the confirmed answers of the meeting of a part
-abbrev pub kept_of : Book → Part → List SaidAnswer
-kept_of book p = filter (λ a. same_meeting p a.claim.part && is_confirmed book.taken a) book.answers
+abbrev pub kept_entries_of : Book → Part → List SaidAnswer
+kept_entries_of book p = filter (λ a. same_meeting p a.claim.part && is_confirmed book.taken a) book.answers
 
 -- the confirmed answers of these parts' meetings, in their order
 abbrev pub kept_parts : Book → List Part → List SaidAnswer
-kept_parts book parts = flat_map (kept_of book) parts
+kept_parts book parts = flat_map (kept_entries_of book) parts
 
 -- the confirmed answers, the meetings in order of first arrival
 abbrev pub kept : Book → List SaidAnswer
@@ -99,7 +99,7 @@ zone_of_entry (false, part) = []
 -- place
 abbrev pub IsEntryEvent : List ℕ → List (List ℕ) → Bool × Part → List (List ℕ) → Type 0
 IsEntryEvent room zones (true, part) lines =
-    (claim : Claim) → claim.part ≡ part → claim.content ≡ body_content part.body → is_set part ≡ true → IsText part.body → SlotDated part.slot
+    (claim : Claim) → claim.part ≡ part → claim.content ≡ body_content part.body → is_set part ≡ true → IsBodyText part.body → SlotDated part.slot
     → IsKeptEvent room zones (Shown claim) lines
 IsEntryEvent room zones (false, part) lines = SlotDated part.slot → IsKeptEvent room zones (Hidden part) lines
 

@@ -5,10 +5,10 @@ ghost use Rattle.std.specs.List.{IsDistinct};
 ghost use Rattle.std.specs.Map.{lookup};
 ghost use Rattle.indexmap.specs.IndexMap.{keys};
 ghost use Rattle.profile.specs.checker.Instances.{IsClear};
-ghost use Rattle.clash_cert.specs.Makings.{AreNamed};
+ghost use Rattle.clash_cert.specs.Makings.{AreBothNamed};
 ghost use Rattle.cal_events.specs.declared.instance.Single.{Single};
 ghost use Rattle.room_books.specs.Meeting.{all_confirmed, keyed_instance, instance_list, confirmed_at, others, same_key, singles_by, spans_of, AreAllApart, RecursIn, AreBusyIn, HaveOverlap};
-ghost use Rattle.room_books.specs.Gone.{IsLater, IsParted};
+ghost use Rattle.room_books.specs.Gone.{IsLater, IsPartedInto};
 ghost use Rattle.room_books.specs.Taking.{IsDecision};
 ghost use Rattle.room_books.specs.Timeline.{IsTimelineOf};
 
@@ -56,7 +56,7 @@ pub(crate) fn decide(
     requires apart { AreAllApart meetings.now.entries }
     requires few { beside ≤ 10_000 }
     ensures { IfOk result (λ outcome. (kept : List Single)
-        → IsParted (singles_by (lookup (same_key key.now) meetings.now.entries)) gone.now kept
+        → IsPartedInto (singles_by (lookup (same_key key.now) meetings.now.entries)) gone.now kept
         → beside ≡ length (others key.now meetings.now.entries) + length kept
         → IsDecision (others key.now meetings.now.entries) key.now kept wanted.now outcome) }
 {
@@ -87,7 +87,7 @@ fn busy_beside<'a>(
 ) -> Option<SharedInstant<'a>>
     requires timed { IsTimelineOf (confirmed_at meetings.now.entries) timeline.now.busy.items }
     requires apart { AreAllApart meetings.now.entries }
-    ensures { (kept : List Single) → IsParted (singles_by (lookup (same_key key.now) meetings.now.entries)) gone.now kept
+    ensures { (kept : List Single) → IsPartedInto (singles_by (lookup (same_key key.now) meetings.now.entries)) gone.now kept
         → AreBusyIn (others key.now meetings.now.entries ++ instance_list key.now kept) (Contains wanted.now) result }
 {
     let own = meetings.get_index_of(key);
@@ -110,7 +110,7 @@ pub(crate) fn busy_beside_series<'a>(
 ) -> Option<SharedInstant<'a>>
     requires timed { IsTimelineOf (confirmed_at meetings.now.entries) timeline.now.busy.items }
     requires apart { AreAllApart meetings.now.entries }
-    ensures { (kept : List Single) → IsParted (singles_by (lookup (same_key key.now) meetings.now.entries)) gone.now kept
+    ensures { (kept : List Single) → IsPartedInto (singles_by (lookup (same_key key.now) meetings.now.entries)) gone.now kept
         → AreBusyIn (others key.now meetings.now.entries ++ instance_list key.now kept) (RecursIn (map (λ one. one.now) all.now)) result }
 {
     let own = meetings.get_index_of(key);
@@ -161,7 +161,7 @@ pub(crate) fn clash_between(
     booked: Single,
 ) -> Result<Clash, AllocError>
     ensures { IfOk result (λ clash. IsLater asked.span booked.span clash.instant
-        × AreNamed (keyed_instance key.now asked) (keyed_instance other.now booked) clash.instant clash) }
+        × AreBothNamed (keyed_instance key.now asked) (keyed_instance other.now booked) clash.instant clash) }
 {
     let of_asked = key.owned(asked)?;
     let of_booked = other.owned(booked)?;

@@ -3,7 +3,7 @@
 ghost use Rattle.std.specs.Prelude.{◌≡◌, ◌++◌, ◌≤◌, length, map, Contains, IfOk, OnOk};
 ghost use Rattle.cal_events.specs.declared.series.Series.{Series};
 ghost use Rattle.room_books.specs.Meeting.{Recurs};
-ghost use Rattle.room_books.specs.Recurring.{AreBeside, AreClearFrom, IsSharedAlone, IsBesideOne, keyed_of};
+ghost use Rattle.room_books.specs.Recurring.{AreBeside, AreClearFrom, IsSharedByItself, IsBesideOne, keyed_of};
 
 use crate::decide::SharedInstant;
 use crate::meeting::MeetingKey;
@@ -112,7 +112,7 @@ fn clash_with<'a>(
 
 /// Two instances of a series that share an instant.
 fn alone(series: &Series) -> Option<(Single, Single)>
-    ensures { IsSharedAlone series.now result }
+    ensures { IsSharedByItself series.now result }
 {
     cal_events::known_by_start();
     let (first, second) = clash_alone(series)?;

@@ -11,7 +11,7 @@ ghost use Rattle.profile.specs.rooms.Kept.{Replies};
 ghost use Rattle.room_books.specs.declared.meeting.MeetingKey.{MeetingKey};
 ghost use Rattle.room_books.specs.declared.kept.Meeting.{Meeting};
 ghost use Rattle.room_books.specs.Meeting.{outcome_of};
-ghost use Rattle.room_books.specs.Taking.{answers_then, claims_said, octets_in, IsMade, OutcomeDated};
+ghost use Rattle.room_books.specs.Taking.{answers_then, claims_said, octets_in, IsMadeOf, OutcomeDated};
 ghost use Rattle.room_books.specs.Room.{AreFitting, IsOwn, Meets, SlotDated};
 ghost use Rattle.room_books.specs.Slots.{AreAnswersBySlot};
 ghost use Rattle.room_books.specs.Reply.{AreShown, CanTell, AllTell, IsEventIn, IsReplyOf, ShowsGiven, WritesAnswers};
@@ -42,7 +42,7 @@ pub fn reply_to(
     requires { AreAnswersBySlot before.now }
     ensures { IfOk result (λ reply. (key : MeetingKey) (own : Book) (meeting : Meeting) → AreFitting key (claims_said claims.now)
         → IsOwn key own
-        → IsMade held.now (answers_then before.now changes.now) meeting → Meets own key meeting
+        → IsMadeOf held.now (answers_then before.now changes.now) meeting → Meets own key meeting
         → Replies (address_octets room.now) own (claims_said claims.now) (octets_in reply)) }
 {
     let shown = shown_in(alloc, claims, held)?;

@@ -21,13 +21,13 @@ ghost use Rattle.profile.specs.checker.Calendars.{CertificateHolds};
 ghost use Rattle.profile.specs.rooms.Rooms as rooms;
 ghost use Rattle.profile.specs.rooms.Rooms.{Book, empty_book};
 ghost use Rattle.profile.specs.rooms.Kept.{IsKeptCalendar, IsKeptCertificate, Refreshes, Replies};
-ghost use Rattle.room_books.specs.Gone.{AreSeparate, IsParted, Shifts};
+ghost use Rattle.room_books.specs.Gone.{AreSeparate, IsPartedInto, Shifts};
 ghost use Rattle.room_books.specs.Meeting.{same_key, all_confirmed, all_singles, instance_list, confirmed_at, singles_by, others, AreAllApart, IsKeyOf, all_recurring, all_series, beside, in_room, other_recurring, recurring_at, series_at, series_by, AreFewer, AreRecurring, IsClearIn, MayJoin};
 ghost use Rattle.room_books.specs.Recurring.{recurring_said, AreAllOf, AreClearBeside, AreNewClear};
 ghost use Rattle.cal_events.specs.declared.instance.Single.{Single};
 ghost use Rattle.room_books.specs.Texts.{KeepsReached, SpellsConfirmed};
 ghost use Rattle.room_books.specs.Timeline.{IsTimelineOf};
-ghost use Rattle.room_books.specs.Taking.{answers_by, answers_then, claims_said, held_after, kept_then, kind_view, octets_in, parts_said, refresh_octets, reply_octets, HasHistory, IsMade, IsDecision, IsWholeDecision, IsAnswered, IsKindOf, MayJoinAll};
+ghost use Rattle.room_books.specs.Taking.{answers_by, answers_then, claims_said, held_after, kept_then, kind_view, octets_in, parts_said, refresh_octets, reply_octets, HasHistory, IsMadeOf, IsDecision, IsWholeDecision, AreAnswersDecided, IsKindOf, MayJoinAll};
 ghost use Rattle.room_books.specs.Slots.{AreAnswersBySlot};
 ghost use Rattle.std.specs.List.Sorted.{IsSortedByKey};
 ghost use Rattle.profile.specs.rooms.Revisions.{slot_cmp};
@@ -307,7 +307,7 @@ impl Room {
             (all_singles (answers_then (answers_by (lookup (same_key key.now) self.now.meetings.entries)) taken.changes))) }
         ensures after { IfOk result (λ taken. IsKeyOf (part_of first.now).organiser (part_of first.now).uid key.now → AreFitting key.now (claims_said claims.now)
             → (book : Book) → Represents self.now.meetings.entries book → (meeting : Meeting)
-            → IsMade (held_after (lookup (same_key key.now) self.now.meetings.entries) more.now) (answers_then (answers_by (lookup (same_key key.now) self.now.meetings.entries)) taken.changes) meeting
+            → IsMadeOf (held_after (lookup (same_key key.now) self.now.meetings.entries) more.now) (answers_then (answers_by (lookup (same_key key.now) self.now.meetings.entries)) taken.changes) meeting
             → IsMeetingAfter book key.now (claims_said claims.now) now (kind_view taken.kind) meeting) }
         ensures joins { IfOk result (λ taken.
             MayJoin (others key.now self.now.meetings.entries) key.now (all_singles (answers_then (answers_by (lookup (same_key key.now) self.now.meetings.entries)) taken.changes))) }
@@ -315,7 +315,7 @@ impl Room {
             MayJoinAll (beside key.now self.now.meetings.entries) key.now (answers_then (answers_by (lookup (same_key key.now) self.now.meetings.entries)) taken.changes)) }
         ensures replies { IfOk result (λ taken. (own : Book) (meeting : Meeting) → AreFitting key.now (claims_said claims.now)
             → IsOwn key.now own
-            → IsMade (held_after (lookup (same_key key.now) self.now.meetings.entries) more.now) (answers_then (answers_by (lookup (same_key key.now) self.now.meetings.entries)) taken.changes) meeting
+            → IsMadeOf (held_after (lookup (same_key key.now) self.now.meetings.entries) more.now) (answers_then (answers_by (lookup (same_key key.now) self.now.meetings.entries)) taken.changes) meeting
             → Meets own key.now meeting
             → Replies (address_octets self.now.address) own (claims_said claims.now) (octets_in taken.reply)) }
         ensures refreshes { IfOk result (λ taken. (before after : List revisions.Part)
@@ -405,7 +405,7 @@ impl Room {
             → RepresentsHistory held.now (history ++ parts_said claims.now) }
         ensures after { IfOk result (λ settled. IsKeyOf (part_of first.now).organiser (part_of first.now).uid key.now
             → AreFitting key.now (claims_said claims.now)
-            → (book : Book) → Represents self.now.meetings.entries book → (meeting : Meeting) → IsMade held.now (answers_then (answers_by (lookup (same_key key.now) self.now.meetings.entries)) settled.changes) meeting
+            → (book : Book) → Represents self.now.meetings.entries book → (meeting : Meeting) → IsMadeOf held.now (answers_then (answers_by (lookup (same_key key.now) self.now.meetings.entries)) settled.changes) meeting
             → IsMeetingAfter book key.now (claims_said claims.now) now (kind_view settled.kind) meeting) }
         ensures shifts { IfOk result (λ settled.
             Shifts (singles_by (lookup (same_key key.now) self.now.meetings.entries)) settled.gone.items settled.added.items
@@ -446,11 +446,11 @@ impl Room {
         now: Stamp,
     ) -> Result<Answered, AllocError>
         requires rises { IsSortedByKey slot_of slot_cmp lost.items }
-        requires parted { IsParted (singles_by (lookup (same_key key.now) self.now.meetings.entries)) gone.now (all_singles (kept_then (lookup (same_key key.now) self.now.meetings.entries) lost.items left.items)) }
+        requires parted { IsPartedInto (singles_by (lookup (same_key key.now) self.now.meetings.entries)) gone.now (all_singles (kept_then (lookup (same_key key.now) self.now.meetings.entries) lost.items left.items)) }
         requires less { AreFewer (series_by (lookup (same_key key.now) self.now.meetings.entries)) (all_series (kept_then (lookup (same_key key.now) self.now.meetings.entries) lost.items left.items)) }
-        ensures answered { IfOk result (λ answered. IsAnswered (beside key.now self.now.meetings.entries) key.now held.now now
+        ensures answered { IfOk result (λ answered. AreAnswersDecided (beside key.now self.now.meetings.entries) key.now held.now now
             (kept_then (lookup (same_key key.now) self.now.meetings.entries) lost.items left.items) asked.now (answers_then (answers_by (lookup (same_key key.now) self.now.meetings.entries)) answered.changes) answered.outcome) }
-        ensures added { IfOk result (λ answered. IsParted (all_singles (answers_then (answers_by (lookup (same_key key.now) self.now.meetings.entries)) answered.changes)) (all_singles (kept_then (lookup (same_key key.now) self.now.meetings.entries) lost.items left.items)) answered.added.items) }
+        ensures added { IfOk result (λ answered. IsPartedInto (all_singles (answers_then (answers_by (lookup (same_key key.now) self.now.meetings.entries)) answered.changes)) (all_singles (kept_then (lookup (same_key key.now) self.now.meetings.entries) lost.items left.items)) answered.added.items) }
         ensures joins { IfOk result (λ answered.
             MayJoin (others key.now self.now.meetings.entries) key.now (all_singles (answers_then (answers_by (lookup (same_key key.now) self.now.meetings.entries)) answered.changes))) }
         ensures recurs { IfOk result (λ answered.
@@ -489,7 +489,7 @@ impl Room {
         candidates: &[PartAnswer],
     ) -> Result<Outcome, AllocError>
         requires rises { IsSortedByKey slot_of slot_cmp lost.now }
-        requires parted { IsParted (singles_by (lookup (same_key key.now) self.now.meetings.entries)) gone.now (all_singles (kept_then (lookup (same_key key.now) self.now.meetings.entries) lost.now left.now)) }
+        requires parted { IsPartedInto (singles_by (lookup (same_key key.now) self.now.meetings.entries)) gone.now (all_singles (kept_then (lookup (same_key key.now) self.now.meetings.entries) lost.now left.now)) }
         requires less { AreFewer (series_by (lookup (same_key key.now) self.now.meetings.entries)) (all_series (kept_then (lookup (same_key key.now) self.now.meetings.entries) lost.now left.now)) }
         ensures { IfOk result (IsWholeDecision (beside key.now self.now.meetings.entries) key.now (kept_then (lookup (same_key key.now) self.now.meetings.entries) lost.now left.now) candidates.now) }
     {
@@ -519,9 +519,9 @@ impl Room {
         gone: &[Single],
         wanted: &[Single],
     ) -> Result<Outcome, AllocError>
-        requires parted { (kept : List Single) × IsParted (singles_by (lookup (same_key key.now) self.now.meetings.entries)) gone.now kept }
+        requires parted { (kept : List Single) × IsPartedInto (singles_by (lookup (same_key key.now) self.now.meetings.entries)) gone.now kept }
         ensures { IfOk result (λ outcome. (kept : List Single)
-            → IsParted (singles_by (lookup (same_key key.now) self.now.meetings.entries)) gone.now kept
+            → IsPartedInto (singles_by (lookup (same_key key.now) self.now.meetings.entries)) gone.now kept
             → IsDecision (others key.now self.now.meetings.entries) key.now kept wanted.now outcome) }
     {
         keys_differ(&self.meetings);
@@ -548,9 +548,9 @@ impl Room {
         singles: &[Single],
         wanted: &[&'a Series],
     ) -> Result<Option<Clash>, AllocError>
-        requires parted { (own : List Single) × IsParted (singles_by (lookup (same_key key.now) self.now.meetings.entries)) gone.now own }
+        requires parted { (own : List Single) × IsPartedInto (singles_by (lookup (same_key key.now) self.now.meetings.entries)) gone.now own }
         ensures { IfOk result (λ found. (own : List Single)
-            → IsParted (singles_by (lookup (same_key key.now) self.now.meetings.entries)) gone.now own
+            → IsPartedInto (singles_by (lookup (same_key key.now) self.now.meetings.entries)) gone.now own
             → AreClearBeside (beside key.now self.now.meetings.entries) key.now own (map (λ one. one.now) kept.now) singles.now (map (λ one. one.now) wanted.now) found) }
     {
         let mut all = self.recurring_beside(key)?;
@@ -595,7 +595,7 @@ impl Room {
     ) -> Result<Option<SharedInstant<'a>>, AllocError>
         requires { from ≤ length all.now }
         ensures { IfOk result (λ found. (own : List Single)
-            → IsParted (singles_by (lookup (same_key key.now) self.now.meetings.entries)) gone.now own
+            → IsPartedInto (singles_by (lookup (same_key key.now) self.now.meetings.entries)) gone.now own
             → AreNewClear (others key.now self.now.meetings.entries ++ instance_list key.now own) all.now from (map (λ one. one.now) wanted.now) found) }
     {
         if wanted.is_empty() {

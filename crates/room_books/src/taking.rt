@@ -14,9 +14,9 @@ ghost use Rattle.itip_order.specs.Registers.{RepresentsHistory};
 ghost use Rattle.room_books.specs.Meeting.{outcome_of, all_singles, all_series, series_by, singles_by, AreFewer};
 ghost use Rattle.std.specs.Option.{option_to_list};
 ghost use Rattle.room_books.specs.Slots.{AreAnswersBySlot, givens, IsUntouched};
-ghost use Rattle.room_books.specs.Gone.{IsPartOf, IsParted, IsSplit, Sheds};
+ghost use Rattle.room_books.specs.Gone.{IsPartOf, IsPartedInto, IsSplitInto, Sheds};
 ghost use Rattle.room_books.specs.declared.meeting.PartAnswer.{PartAnswer};
-ghost use Rattle.room_books.specs.Room.{KeepsAll, KeepsSome};
+ghost use Rattle.room_books.specs.Room.{KeepsEach, KeepsSome};
 ghost use Rattle.profile.specs.checker.Instances.{Instance};
 ghost use Rattle.room_books.specs.Taking.{LeavesAll, HasHistory, held_after, AreAsked, part_instance, left_in, KeepsWhatIsLeft, IsAccepted, IsDecided, IsKindOf, IsLeftAlone, IsAnswerAfter, kept_then, kind_view, parts_said, series_still, singles_of_left};
 
@@ -196,10 +196,10 @@ impl<'a> Views<'a> {
     ) -> Result<AnswersKept, AllocError>
         requires { IsSortedByKey slot_of slot_cmp slots.now }
         ensures kept { IfOk result (λ kept.
-            KeepsAll (part_of part.now) slots.now (option_copied self.now.before) self.now.after.now
+            KeepsEach (part_of part.now) slots.now (option_copied self.now.before) self.now.after.now
             (kept_then (option_copied self.now.before) kept.lost.items kept.left.items)) }
         ensures parted { IfOk result (λ kept.
-            IsParted (singles_by (option_copied self.now.before)) kept.gone.items
+            IsPartedInto (singles_by (option_copied self.now.before)) kept.gone.items
             (all_singles (kept_then (option_copied self.now.before) kept.lost.items kept.left.items))) }
         ensures fewer { IfOk result (λ kept.
             AreFewer (series_by (option_copied self.now.before)) (all_series (kept_then (option_copied self.now.before) kept.lost.items kept.left.items))) }
@@ -234,7 +234,7 @@ fn left_at(
     requires { IsSortedByKey slot_of slot_cmp slots.now }
     ensures lost { IfOk result (λ kept. kept.lost ≡ lost) }
     ensures left { IfOk result (λ kept. KeepsSome (part_of part.now) slots.now before.now after.now (givens out.now) kept.left.items) }
-    ensures split { IfOk result (λ kept. IsSplit (all_singles (givens out.now)) kept.gone.items (all_singles kept.left.items)) }
+    ensures split { IfOk result (λ kept. IsSplitInto (all_singles (givens out.now)) kept.gone.items (all_singles kept.left.items)) }
     ensures fewer { IfOk result (λ kept. AreFewer (all_series (givens out.now)) (all_series kept.left.items)) }
 {
     let mut left = Vec::new(alloc);

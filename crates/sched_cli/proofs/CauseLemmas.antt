@@ -10,7 +10,7 @@ use Rattle.ical_tree.specs.declared.component.Component.{Component}
 use Rattle.profile.specs.series.ZoneTexts.{is_part}
 use Rattle.cal_zones.specs.Read.{HasZoneFault, parts_in, zone_parts}
 use Rattle.cal_zones.proofs.PartLemmas.{is_among}
-use Rattle.sched_cli.specs.Obstacles.{AreBoth, HasFar, HasRuleCause, HasUnmatched, IsCause, IsFar, IsFirstLine, IsLonely, IsPart, IsPartCause, IsTimesCause, IsUnmatched, parts_named, text_of, times, ruled, second, rule, far, unmatched, close}
+use Rattle.sched_cli.specs.Obstacles.{AreBoth, HasFar, HasRuleCause, HasUnmatched, IsCause, IsFar, IsFirstLine, IsLonely, IsNthPart, IsPartCause, IsTimesCause, IsUnmatched, parts_named, text_of, times, ruled, second, rule, far, unmatched, close}
 use Rattle.sched_cli.specs.declared.obstacle.Cause.{Cause}
 use Rattle.sched_cli.specs.declared.obstacle.Obstacle.{Obstacle}
 use Rattle.sched_cli.specs.declared.obstacle.Obstacle.TheVariants.{RuledAlone, Second, FarApart, Unmatched, Close}
@@ -37,12 +37,12 @@ times_at zone children i part found cause e within here is name same has =
     (subst (λ (k : Cause). IsTimesCause (component_lines part) k.obstacle (text_of k.line)) (sym same) has)
 
 -- a second STANDARD, or a second DAYLIGHT
-pub second_standard : (zone part : Component) (found : PartCause) → HasZoneFault zone 40 → AreRight (zone_parts zone) → IsPart zone (codes "STANDARD") 1 part
+pub second_standard : (zone part : Component) (found : PartCause) → HasZoneFault zone 40 → AreRight (zone_parts zone) → IsNthPart zone (codes "STANDARD") 1 part
     → found.name.now ≡ component_name part → found.cause.obstacle ≡ Second → text_of found.cause.line ≡ None → IsCause zone 40 found
 second_standard zone part found fault right is name o l =
     caused zone part 40 found Second None name o l (second (differ zone fault right (some_standard zone part 1 is)) (inl is))
 
-pub second_daylight : (zone part : Component) (found : PartCause) → HasZoneFault zone 40 → AreRight (zone_parts zone) → IsPart zone (codes "DAYLIGHT") 1 part
+pub second_daylight : (zone part : Component) (found : PartCause) → HasZoneFault zone 40 → AreRight (zone_parts zone) → IsNthPart zone (codes "DAYLIGHT") 1 part
     → found.name.now ≡ component_name part → found.cause.obstacle ≡ Second → text_of found.cause.line ≡ None → IsCause zone 40 found
 second_daylight zone part found fault right is name o l =
     caused zone part 40 found Second None name o l (second (differ zone fault right (some_daylight zone part 1 is)) (inr is))
@@ -62,7 +62,7 @@ lonely_daylight zone found fault right once other (inr (part, line, is, name, o,
 
 -- one of each name
 pub rules_there : (zone standard daylight : Component) (found : PartCause) → HasZoneFault zone 40 → AreRight (zone_parts zone)
-    → IsPart zone (codes "STANDARD") 0 standard → drop 1 (parts_named zone (codes "STANDARD")) ≡ [] → IsPart zone (codes "DAYLIGHT") 0 daylight → drop 1 (parts_named zone (codes "DAYLIGHT")) ≡ []
+    → IsNthPart zone (codes "STANDARD") 0 standard → drop 1 (parts_named zone (codes "STANDARD")) ≡ [] → IsNthPart zone (codes "DAYLIGHT") 0 daylight → drop 1 (parts_named zone (codes "DAYLIGHT")) ≡ []
     → HasRuleCause standard found ⊎ HasRuleCause daylight found → IsCause zone 40 found
 rules_there zone standard daylight found fault right s s_once d d_once (inl (name, is)) =
     inr (
@@ -116,12 +116,12 @@ pub has_unmatched : (part other : Component) (found : PartCause) (cause : Cause)
     → text_of cause.line ≡ Some line → IsUnmatched (component_lines part) (component_lines other) line → HasUnmatched part other found
 has_unmatched part other found cause line name same o l is = (line, name, ap (λ (k : Cause). k.obstacle) same ∙ o, ap (λ (k : Cause). text_of k.line) same ∙ l, is)
 
-pub far_there : (zone part : Component) (found : PartCause) → IsPart zone (codes "STANDARD") 0 part ⊎ IsPart zone (codes "DAYLIGHT") 0 part → HasFar part found → IsCause zone 41 found
+pub far_there : (zone part : Component) (found : PartCause) → IsNthPart zone (codes "STANDARD") 0 part ⊎ IsNthPart zone (codes "DAYLIGHT") 0 part → HasFar part found → IsCause zone 41 found
 far_there zone part found is (line, name, o, l, has) = caused zone part 41 found FarApart (Some line) name o l (far line is has)
 
 pub unmatched_there : (zone part other : Component) (found : PartCause) → AreBoth zone part other → HasUnmatched part other found → IsCause zone 41 found
 unmatched_there zone part other found both (line, name, o, l, has) = caused zone part 41 found Unmatched (Some line) name o l (unmatched line other both has)
 
-pub close_there : (zone part : Component) (found : PartCause) → IsPart zone (codes "DAYLIGHT") 0 part → found.name.now ≡ component_name part → found.cause.obstacle ≡ Close
+pub close_there : (zone part : Component) (found : PartCause) → IsNthPart zone (codes "DAYLIGHT") 0 part → found.name.now ≡ component_name part → found.cause.obstacle ≡ Close
     → text_of found.cause.line ≡ None → IsCause zone 42 found
 close_there zone part found is name o l = caused zone part 42 found Close None name o l (close is)

@@ -11,7 +11,7 @@ use Rattle.ical_lines.specs.declared.object_end.Cutter.{Cutter}
 use Rattle.ical_lines.specs.Cut.{ends_before, fresh, rest_after, step}
 use Rattle.ical_lines.proofs.CutLemmas.{cutter_ends}
 use Rattle.sched_cli.specs.declared.returned.WayBack.{WayBack}
-use Rattle.sched_cli.specs.Returned.{ArePieces, HandsBack, IsParted, IsTold, Returns, ReturnsAll, after_piece, is_line, more, none}
+use Rattle.sched_cli.specs.Returned.{ArePieces, HandsBack, IsParted, IsPieceTold, Returns, ReturnsAll, after_piece, is_line, more, none}
 
 -- ---- where an object ends
 
@@ -37,10 +37,10 @@ pub as_it_came : (way : WayBack) (piece : List ℕ) → HandsBack way piece piec
 as_it_came way piece = record { told = piece; is_told = inl refl; given = inl refl; line = λ e. refl }
 
 -- anything else
-hands_back : (way : WayBack) (piece told out : List ℕ) → is_line piece ≡ false → IsTold way piece told → (out ≡ told) ⊎ ((way.is_single ≡ true) × IsParted told out) → HandsBack way piece out
+hands_back : (way : WayBack) (piece told out : List ℕ) → is_line piece ≡ false → IsPieceTold way piece told → (out ≡ told) ⊎ ((way.is_single ≡ true) × IsParted told out) → HandsBack way piece out
 hands_back way piece told out other is_told given = record { told = told; is_told = is_told; given = given; line = λ e. absurd (cc) }
 
-pub handed_so : {T E : Type 0} (octets : T → List ℕ) (way : WayBack) (piece told : List ℕ) (r : Result (Option T) E) → is_line piece ≡ false → IsTold way piece told
+pub handed_so : {T E : Type 0} (octets : T → List ℕ) (way : WayBack) (piece told : List ℕ) (r : Result (Option T) E) → is_line piece ≡ false → IsPieceTold way piece told
     → IfOk r (λ found. IfSome found (λ out. (way.is_single ≡ true) × IsParted told (octets out)))
     → IfOk r (λ found. MatchOption found (HandsBack way piece told) (λ out. HandsBack way piece (octets out)))
 handed_so octets way piece told (Ok (Some out)) other is_told parted = hands_back way piece told (octets out) other is_told (inr parted)

@@ -10,11 +10,11 @@ use Rattle.profile.specs.events.Properties.{lines_named, IsMissing, OccursMoreTh
 use Rattle.profile.specs.series.ZoneTexts.{IsFixedLine, OffsetsDiffer, PartsFault, TimesFault, is_part, is_standard, is_daylight, time_names, dates, missing, twice, fixed, bad_start, bad_from, bad_to, no_part, in_part, ruled, other_parts, unruled, unmatched, close}
 use Rattle.cal_zones.specs.Read.{HasZoneFault, daylights_of, standards_of, zone_parts, parts_in}
 use Rattle.cal_zones.proofs.PartLemmas.{all_left, drop_other, drop_part}
-use Rattle.sched_cli.specs.Obstacles.{IsBehind, IsFirstLine, IsLocalOnce, IsOnce, IsPart, IsSecondLine, named}
+use Rattle.sched_cli.specs.Obstacles.{StandsBehind, IsFirstLine, IsLocalOnce, IsOnce, IsNthPart, IsSecondLine, named}
 
 -- ---- a property that occurs once
 
-pub one_of : {A : Type 0} (xs : List A) (x : A) → IsBehind 0 xs x → drop 1 xs ≡ [] → xs ≡ x ∷ []
+pub one_of : {A : Type 0} (xs : List A) (x : A) → StandsBehind 0 xs x → drop 1 xs ≡ [] → xs ≡ x ∷ []
 one_of [] x (others, e) none = cc
 one_of (y ∷ ys) x (others, e) none = e ∙ ap (λ zs. x ∷ zs) (sym (ap (drop 1) e) ∙ none)
 
@@ -40,7 +40,7 @@ is_second name lines left later rest first line same e f = (rest, ap (λ l. drop
 
 -- so is the second component of a name
 pub second_of : (zone : Component) (name : List ℕ) (all again rest : List Component) (place : ℕ) (first second : Component) → all ≡ component_children zone → again ≡ component_children zone
-    → named name all ≡ first ∷ named name (drop (place + 1) all) → named name (take (length again - (place + 1)) (drop (place + 1) again)) ≡ second ∷ rest → IsPart zone name 1 second
+    → named name all ≡ first ∷ named name (drop (place + 1) all) → named name (take (length again - (place + 1)) (drop (place + 1) again)) ≡ second ∷ rest → IsNthPart zone name 1 second
 second_of zone name all again rest place first second e f one two =
     (rest, ap (λ l. drop 1 (named name l)) (sym e) ∙ ap (drop 1) one ∙ ap (λ l. named name (drop (place + 1) l)) (e ∙ sym f) ∙ ap (named name) (sym (take_rest again (place + 1))) ∙ two)
 
@@ -137,7 +137,7 @@ none_mapped : {A B : Type 0} (f : A → B) (xs : List A) → map f xs ≡ [] →
 none_mapped f [] e = refl
 none_mapped f (x ∷ xs) e = cc
 
-none_dropped : {A : Type 0} (n : ℕ) (xs : List A) (x : A) → IsBehind n xs x → xs ≡ [] → ⊥
+none_dropped : {A : Type 0} (n : ℕ) (xs : List A) (x : A) → StandsBehind n xs x → xs ≡ [] → ⊥
 none_dropped zero xs x (others, e) none = never_none x others (sym e ∙ none)
 none_dropped (suc n) xs x (others, e) none = never_none x others (sym e ∙ ap (drop (suc n)) none)
 
@@ -148,20 +148,20 @@ abbrev pub daylight_of : Component → Bool
 daylight_of c = is_daylight (component_name c)
 
 -- a part is there
-pub some_standard : (zone part : Component) (n : ℕ) → IsPart zone (codes "STANDARD") n part → zone_parts zone ≡ [] → ⊥
+pub some_standard : (zone part : Component) (n : ℕ) → IsNthPart zone (codes "STANDARD") n part → zone_parts zone ≡ [] → ⊥
 some_standard zone part n is none =
     none_dropped n (filter standard_of (component_children zone)) part is (none_left standard_of daylight_of (component_children zone) (none_mapped component_lines (filter (λ c. is_part (component_name c)) (component_children zone)) none))
 
-pub some_daylight : (zone part : Component) (n : ℕ) → IsPart zone (codes "DAYLIGHT") n part → zone_parts zone ≡ [] → ⊥
+pub some_daylight : (zone part : Component) (n : ℕ) → IsNthPart zone (codes "DAYLIGHT") n part → zone_parts zone ≡ [] → ⊥
 some_daylight zone part n is none =
     none_dropped n (filter daylight_of (component_children zone)) part is (none_right standard_of daylight_of (component_children zone) (none_mapped component_lines (filter (λ c. is_part (component_name c)) (component_children zone)) none))
 
 -- the only part
-pub only_standard : (zone part : Component) → IsPart zone (codes "STANDARD") 0 part → drop 1 (filter standard_of (component_children zone)) ≡ [] → filter daylight_of (component_children zone) ≡ [] → zone_parts zone ≡ component_lines part ∷ []
+pub only_standard : (zone part : Component) → IsNthPart zone (codes "STANDARD") 0 part → drop 1 (filter standard_of (component_children zone)) ≡ [] → filter daylight_of (component_children zone) ≡ [] → zone_parts zone ≡ component_lines part ∷ []
 only_standard zone part is once none =
     ap (map component_lines) (left_alone standard_of daylight_of (component_children zone) none ∙ one_of (filter standard_of (component_children zone)) part is once)
 
-pub only_daylight : (zone part : Component) → IsPart zone (codes "DAYLIGHT") 0 part → drop 1 (filter daylight_of (component_children zone)) ≡ [] → filter standard_of (component_children zone) ≡ [] → zone_parts zone ≡ component_lines part ∷ []
+pub only_daylight : (zone part : Component) → IsNthPart zone (codes "DAYLIGHT") 0 part → drop 1 (filter daylight_of (component_children zone)) ≡ [] → filter standard_of (component_children zone) ≡ [] → zone_parts zone ≡ component_lines part ∷ []
 only_daylight zone part is once none =
     ap (map component_lines) (right_alone standard_of daylight_of (component_children zone) none ∙ one_of (filter daylight_of (component_children zone)) part is once)
 
@@ -169,5 +169,5 @@ pub no_parts : (zone : Component) → filter standard_of (component_children zon
 no_parts zone none other = ap (map component_lines) (left_alone standard_of daylight_of (component_children zone) other ∙ none)
 
 -- one of each name
-pub one_named : (zone part : Component) (test : Component → Bool) → IsBehind 0 (filter test (component_children zone)) part → drop 1 (filter test (component_children zone)) ≡ [] → map component_lines (filter test (component_children zone)) ≡ component_lines part ∷ []
+pub one_named : (zone part : Component) (test : Component → Bool) → StandsBehind 0 (filter test (component_children zone)) part → drop 1 (filter test (component_children zone)) ≡ [] → map component_lines (filter test (component_children zone)) ≡ component_lines part ∷ []
 one_named zone part test is once = ap (map component_lines) (one_of (filter test (component_children zone)) part is once)

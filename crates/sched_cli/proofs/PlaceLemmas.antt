@@ -7,7 +7,7 @@ use Rattle.std.proofs.lemmas.List.Splits.{length-slice_split}
 use Rattle.profile.specs.text.Lines.{is_continuation, gather, unfolded, physical_lines, without_mark, without_return, line_name}
 use Rattle.ical_lines.specs.Unfold.{lines_after}
 use Rattle.sched_cli.specs.Places.{IsPlace}
-use Rattle.sched_cli.specs.Searching.{Finds, FoundIn, IsAt, IsBlamed, IsBlamedPlace, IsNoted, with_possible}
+use Rattle.sched_cli.specs.Searching.{Finds, FoundIn, IsAt, IsBlamed, IsBlamedPlace, NotesBlame, with_possible}
 use Rattle.sched_cli.specs.declared.blame.Blame as blame
 use Rattle.sched_cli.specs.declared.blame.Blame.TheVariants as blames
 use Rattle.sched_cli.specs.declared.place.Found.{Found}
@@ -144,7 +144,7 @@ blamed_at sought octets line property content place b is blamed (on, named) =
     (at, subst C (sym same) blamed)
 
 noted_in : (sought : Sought) (octets : List ℕ) (old new : Found) (b : blame.Blame) (line : ℕ) (property content : List ℕ) → IsPlaceOf octets line property content → IsBlamed sought content b → FoundIn sought octets old
-    → IsNoted old b line property new → FoundIn sought octets new
+    → NotesBlame old b line property new → FoundIn sought octets new
 noted_in sought octets old new blames.None line property content is blamed before noted = subst (FoundIn sought octets) (sym noted) before
 noted_in sought octets old new blames.Certain line property content is blamed before (place, e, at) =
     subst (FoundIn sought octets) (sym e) (blamed_at sought octets line property content place blames.Certain is blamed at)

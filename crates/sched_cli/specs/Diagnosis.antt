@@ -63,13 +63,13 @@ abbrev pub way_text : InTheWay → List ℕ
 way_text way = way.part.items ++ (codes " at line " ++ (decimal way.begins ++ (codes ": " ++ words_of way.obstacle)))
 
 -- the octets spell a message
-abbrev pub IsRead : List ℕ → Type 0
-IsRead octets = (message : Message) × SpellsMessage octets message
+abbrev pub IsMessageText : List ℕ → Type 0
+IsMessageText octets = (message : Message) × SpellsMessage octets message
 
 -- the octets that are made are read, or are refused with a number
 abbrev pub IsEnding : List ℕ → List ℕ → Type 0
 IsEnding octets text =
-    (IsRead octets × (text ≡ codes "read.\n")) ⊎ ((n : ℕ) × HasFault octets n × (text ≡ codes "refused " ++ (decimal n ++ codes ".\n")))
+    (IsMessageText octets × (text ≡ codes "read.\n")) ⊎ ((n : ℕ) × HasFault octets n × (text ≡ codes "refused " ++ (decimal n ++ codes ".\n")))
 
 -- what the door makes of the octets: nothing, or an object, which is read or refused
 abbrev pub IsHelp : List ℕ → List ℕ → Type 0

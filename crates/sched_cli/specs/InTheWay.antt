@@ -47,7 +47,7 @@ sought_line spot name None = Begin spot name
 sought_line spot name (Some text) = Text spot text
 
 -- this is what was found of a VTIMEZONE, and the octets have it there: a part of that name begins on this line, and that line is in the way
-pub record IsPlaced (octets : List ℕ) (found : PartCause) (way : InTheWay) : Type 0 where
+pub record IsPlacedInOctets (octets : List ℕ) (found : PartCause) (way : InTheWay) : Type 0 where
   pub obstacle : way.obstacle ≡ found.cause.obstacle
   pub part : way.part.items ≡ found.name.now
   pub spot : Spot
@@ -65,4 +65,4 @@ pub record IsInTheWay (octets : List ℕ) (n : ℕ) (way : InTheWay) : Type 0 wh
   pub refused : NamesRefused object n zone
   pub found : PartCause
   pub cause : IsCause zone n found
-  pub placed : IsPlaced octets found way
+  pub placed : IsPlacedInOctets octets found way

@@ -20,15 +20,15 @@ use Rattle.sched_cli.specs.declared.obstacle.PartCause.{PartCause}
 -- ---- places in a list
 
 -- this one comes behind so many others
-abbrev pub IsBehind : {A : Type 0} → ℕ → List A → A → Type 0
-IsBehind {A} n xs x = (others : List A) × (drop n xs ≡ x ∷ others)
+abbrev pub StandsBehind : {A : Type 0} → ℕ → List A → A → Type 0
+StandsBehind {A} n xs x = (others : List A) × (drop n xs ≡ x ∷ others)
 
 -- the first line of a property, and the second
 abbrev pub IsFirstLine : List ℕ → List (List ℕ) → List ℕ → Type 0
-IsFirstLine name lines line = IsBehind 0 (lines_named name lines) line
+IsFirstLine name lines line = StandsBehind 0 (lines_named name lines) line
 
 abbrev pub IsSecondLine : List ℕ → List (List ℕ) → List ℕ → Type 0
-IsSecondLine name lines line = IsBehind 1 (lines_named name lines) line
+IsSecondLine name lines line = StandsBehind 1 (lines_named name lines) line
 
 -- ---- what of a part is in the way, and its line; None where it is the part itself
 
@@ -91,13 +91,13 @@ abbrev pub parts_named : Component → List ℕ → List Component
 parts_named zone name = named name (component_children zone)
 
 -- the part of a name behind so many others of it
-abbrev pub IsPart : Component → List ℕ → ℕ → Component → Type 0
-IsPart zone name n part = IsBehind n (parts_named zone name) part
+abbrev pub IsNthPart : Component → List ℕ → ℕ → Component → Type 0
+IsNthPart zone name n part = StandsBehind n (parts_named zone name) part
 
 -- a STANDARD and a DAYLIGHT, in any order
 abbrev pub AreBoth : Component → Component → Component → Type 0
 AreBoth zone part other =
-    (IsPart zone (codes "STANDARD") 0 part × IsPart zone (codes "DAYLIGHT") 0 other) ⊎ (IsPart zone (codes "DAYLIGHT") 0 part × IsPart zone (codes "STANDARD") 0 other)
+    (IsNthPart zone (codes "STANDARD") 0 part × IsNthPart zone (codes "DAYLIGHT") 0 other) ⊎ (IsNthPart zone (codes "DAYLIGHT") 0 part × IsNthPart zone (codes "STANDARD") 0 other)
 
 -- one of the two, of which there is one of each
 abbrev pub IsOneOfTwo : Component → Component → Type 0
@@ -113,16 +113,16 @@ pub data IsPartCause (zone part : Component) : Obstacle → Option (List ℕ) �
   ruled : (line : List ℕ) → OffsetsDiffer (zone_parts zone) → zone_parts zone ≡ component_lines part ∷ []
       → IsFirstLine (codes "RRULE") (component_lines part) line → IsPartCause zone part RuledAlone (Some line) 40
   -- offsets differ, and it is a second STANDARD or DAYLIGHT
-  second : OffsetsDiffer (zone_parts zone) → IsPart zone (codes "STANDARD") 1 part ⊎ IsPart zone (codes "DAYLIGHT") 1 part
+  second : OffsetsDiffer (zone_parts zone) → IsNthPart zone (codes "STANDARD") 1 part ⊎ IsNthPart zone (codes "DAYLIGHT") 1 part
       → IsPartCause zone part Second None 40
   -- offsets differ, and it is one of a STANDARD and a DAYLIGHT
   rule : (obstacle : Obstacle) (line : Option (List ℕ)) → OffsetsDiffer (zone_parts zone) → IsOneOfTwo zone part
       → IsRuleCause (component_lines part) obstacle line → IsPartCause zone part obstacle line 40
-  far : (line : List ℕ) → IsPart zone (codes "STANDARD") 0 part ⊎ IsPart zone (codes "DAYLIGHT") 0 part → IsFar (component_lines part) line
+  far : (line : List ℕ) → IsNthPart zone (codes "STANDARD") 0 part ⊎ IsNthPart zone (codes "DAYLIGHT") 0 part → IsFar (component_lines part) line
       → IsPartCause zone part FarApart (Some line) 41
   unmatched : (line : List ℕ) (other : Component) → AreBoth zone part other → IsUnmatched (component_lines part) (component_lines other) line
       → IsPartCause zone part Unmatched (Some line) 41
-  close : IsPart zone (codes "DAYLIGHT") 0 part → IsPartCause zone part Close None 42
+  close : IsNthPart zone (codes "DAYLIGHT") 0 part → IsPartCause zone part Close None 42
 
 -- the text of the line, where there is one
 abbrev pub text_of : Option (Bor (List ℕ)) → Option (List ℕ)
@@ -148,7 +148,7 @@ IsLocalOnce part = (line : List ℕ) × (lines_named (codes "DTSTART") part ≡ 
 abbrev pub IsLonely : Component → List ℕ → PartCause → Type 0
 IsLonely zone name found =
     ((parts_named zone name ≡ []) × (found.name.now ≡ component_name zone) × (found.cause.obstacle ≡ NoPart) × (text_of found.cause.line ≡ None))
-    ⊎ ((part : Component) × (line : List ℕ) × IsPart zone name 0 part × (found.name.now ≡ component_name part) × (found.cause.obstacle ≡ RuledAlone)
+    ⊎ ((part : Component) × (line : List ℕ) × IsNthPart zone name 0 part × (found.name.now ≡ component_name part) × (found.cause.obstacle ≡ RuledAlone)
     × (text_of found.cause.line ≡ Some line) × IsFirstLine (codes "RRULE") (component_lines part) line)
 
 -- what of the rule of this part is in the way

@@ -34,8 +34,8 @@ pub data ArePieces : List ℕ → List (List ℕ) → List ℕ → Type 0 where
 -- ---- what is handed on
 
 -- a piece as it came, or in the words of the object that it answers
-abbrev pub IsTold : WayBack → List ℕ → List ℕ → Type 0
-IsTold way piece told = (told ≡ piece) ⊎ IsReturned (list_of way.listed) way.original.now piece told
+abbrev pub IsPieceTold : WayBack → List ℕ → List ℕ → Type 0
+IsPieceTold way piece told = (told ≡ piece) ⊎ IsReturned (list_of way.listed) way.original.now piece told
 
 -- each VEVENT is in an object of its own
 abbrev pub IsParted : List ℕ → List ℕ → Type 0
@@ -44,7 +44,7 @@ IsParted told out = (parts : List (List ℕ)) × IsSplit told parts × (out ≡ 
 -- these octets are handed on for a piece. A line that no object has is handed on as it came
 pub record HandsBack (way : WayBack) (piece out : List ℕ) : Type 0 where
   pub told : List ℕ
-  pub is_told : IsTold way piece told
+  pub is_told : IsPieceTold way piece told
   pub given : (out ≡ told) ⊎ ((way.is_single ≡ true) × IsParted told out)
   pub line : is_line piece ≡ true → out ≡ piece
 

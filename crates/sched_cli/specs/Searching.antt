@@ -22,18 +22,18 @@ abbrev pub blame_if : Bool → blame.Blame
 blame_if is_sought = if is_sought then blames.Certain else blames.None
 
 -- where a line has it, this holds
-abbrev pub IsAlone : Type 0 → blame.Blame → Type 0
-IsAlone P blames.None = Unit {0}
-IsAlone P blames.Possible = ⊥
-IsAlone P blames.Certain = P
+abbrev pub HoldsIfCertain : Type 0 → blame.Blame → Type 0
+HoldsIfCertain P blames.None = Unit {0}
+HoldsIfCertain P blames.Possible = ⊥
+HoldsIfCertain P blames.Certain = P
 
 -- octets have this to do with what is sought: with the fault of a number, which they have as they are spelled, or as a content line of some
 -- component; or they are the line that begins a component of a name, or the one of a text
 abbrev pub IsBlamed : Sought → List ℕ → blame.Blame → Type 0
 IsBlamed (Fault n) content blamed =
     ((blamed ≡ blames.Certain) × IsTrue (text_has true n content)) ⊎ ((within : Within) × IsBlame n within content blamed)
-IsBlamed (Begin spot name) content blamed = IsAlone (IsBeginOf name.now content) blamed
-IsBlamed (Text spot text) content blamed = IsAlone (content ≡ text.now) blamed
+IsBlamed (Begin spot name) content blamed = HoldsIfCertain (IsBeginOf name.now content) blamed
+IsBlamed (Text spot text) content blamed = HoldsIfCertain (content ≡ text.now) blamed
 
 -- the place is on this physical line and has this property
 abbrev pub IsAt : ℕ → List ℕ → Place → Type 0
@@ -47,10 +47,10 @@ with_possible Several place = Several
 with_possible (Certain first) place = Several
 
 -- what is found with a line more, by what it has to do with the fault
-abbrev pub IsNoted : Found → blame.Blame → ℕ → List ℕ → Found → Type 0
-IsNoted old blames.None line property new = new ≡ old
-IsNoted old blames.Certain line property new = (place : Place) × (new ≡ Certain place) × IsAt line property place
-IsNoted old blames.Possible line property new = (place : Place) × (new ≡ with_possible old place) × IsAt line property place
+abbrev pub NotesBlame : Found → blame.Blame → ℕ → List ℕ → Found → Type 0
+NotesBlame old blames.None line property new = new ≡ old
+NotesBlame old blames.Certain line property new = (place : Place) × (new ≡ Certain place) × IsAt line property place
+NotesBlame old blames.Possible line property new = (place : Place) × (new ≡ with_possible old place) × IsAt line property place
 
 -- the content line that begins there was looked at: what was found before stays, or it isn't empty and was noted by what it has to do with
 -- what is sought, with its property or without
@@ -58,7 +58,7 @@ abbrev pub Finds : Sought → Found → Found → ℕ → List ℕ → Type 0
 Finds sought old new line content =
     (new ≡ old)
     ⊎ ((0 < length content) × (blamed : blame.Blame) × (property : List ℕ) × ((property ≡ []) ⊎ (property ≡ line_name content)) × IsBlamed sought content blamed
-    × IsNoted old blamed line property new)
+    × NotesBlame old blamed line property new)
 
 -- if one line was found, it is a place of the octets, and its line is the one, or can be it
 abbrev pub FoundIn : Sought → List ℕ → Found → Type 0

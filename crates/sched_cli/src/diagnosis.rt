@@ -3,7 +3,7 @@
 ghost use Rattle.std.specs.Prelude.{◌≡◌, ◌≤◌, ◌++◌, ◌⊎◌, ℕ, List, codes, decimal, true, false, IfOk, MatchOption, OnOk};
 ghost use Rattle.std.specs.Io.KnownBytes.{Appends, Keeps};
 ghost use Rattle.sched_cli.specs.Commands.{BlamesDevice, IsStatusSaid, TellsDevice};
-ghost use Rattle.sched_cli.specs.Diagnosis.{HasFault, IsEnding, IsHelp, IsMeaningOf, IsPlaceText, IsRead, IsReason, IsRefusedText, SaysRefused, SaysTaken, message_line, place_text, property_text, way_text};
+ghost use Rattle.sched_cli.specs.Diagnosis.{HasFault, IsEnding, IsHelp, IsMeaningOf, IsPlaceText, IsMessageText, IsReason, IsRefusedText, SaysRefused, SaysTaken, message_line, place_text, property_text, way_text};
 ghost use Rattle.sched_cli.specs.Explained.{is_explained};
 
 use crate::explain::explanation;
@@ -195,7 +195,7 @@ fn append_adapted(alloc: Global, text: &mut Vec<u8>, octets: &[u8]) -> Result<()
 
 /// The number that octets are refused with; None where they are read.
 fn refused_number(alloc: Global, octets: &[u8]) -> Result<Option<u8>, AllocError>
-    ensures { IfOk result (λ refused. MatchOption refused (IsRead octets.now) (HasFault octets.now)) }
+    ensures { IfOk result (λ refused. MatchOption refused (IsMessageText octets.now) (HasFault octets.now)) }
 {
     match Message::read(alloc, octets) {
         Ok(_) => Ok(None),

@@ -7,7 +7,7 @@ ghost use Rattle.ical_tree.specs.Tree.{component_name, component_lines};
 ghost use Rattle.profile.specs.events.Properties.{IsMissing, lines_named};
 ghost use Rattle.profile.specs.series.ZoneTexts.{IsFixedLine, TimesFault, is_part};
 ghost use Rattle.cal_zones.specs.Read.{HasZoneFault, zone_parts};
-ghost use Rattle.sched_cli.specs.Obstacles.{HasFar, HasRuleCause, HasUnmatched, IsCause, IsFirstLine, IsLonely, IsLocalOnce, IsOnce, IsPart, IsRuleCause, IsSecondLine, IsTextCause, IsTimesCause, missing_words, named, parts_named, text_of, time_name, twice_words, words_of};
+ghost use Rattle.sched_cli.specs.Obstacles.{HasFar, HasRuleCause, HasUnmatched, IsCause, IsFirstLine, IsLonely, IsLocalOnce, IsOnce, IsNthPart, IsRuleCause, IsSecondLine, IsTextCause, IsTimesCause, missing_words, named, parts_named, text_of, time_name, twice_words, words_of};
 
 use cal_rules::RuleText;
 use cal_zones::day_named;
@@ -327,7 +327,7 @@ fn is_part(component: &Component) -> bool
 
 /// The first STANDARD or DAYLIGHT, by its name.
 fn first_part<'c, 'a>(zone: &'c Component<'a>, name: &str) -> Option<Part<'c, 'a>>
-    ensures found { IfSome result (λ part. IsPart zone.now name.now 0 part.component.now) }
+    ensures found { IfSome result (λ part. IsNthPart zone.now name.now 0 part.component.now) }
     ensures none { IfNone result (parts_named zone.now name.now ≡ []) }
 {
     first_named(zone.children(), name)
@@ -335,7 +335,7 @@ fn first_part<'c, 'a>(zone: &'c Component<'a>, name: &str) -> Option<Part<'c, 'a
 
 /// The second one.
 fn second_part<'c, 'a>(zone: &'c Component<'a>, name: &str) -> Option<Part<'c, 'a>>
-    ensures found { IfSome result (λ part. IsPart zone.now name.now 1 part.component.now) }
+    ensures found { IfSome result (λ part. IsNthPart zone.now name.now 1 part.component.now) }
     ensures none { IfNone result (drop 1 (parts_named zone.now name.now) ≡ []) }
 {
     let first = first_named(zone.children(), name)?;

@@ -5,7 +5,7 @@
 ghost use Rattle.std.specs.Prelude.{◌≡◌, ◌<◌, ◌^◌, ◌+◌, ◌++◌, ◌⊎◌, ℕ, List, length, drop, true, false, IfOk, IfSome, OnOk};
 ghost use Rattle.ical_lines.specs.Text.{line_text};
 ghost use Rattle.profile.specs.text.Lines.{is_continuation, line_name};
-ghost use Rattle.sched_cli.specs.Searching.{Finds, FoundIn, IsBeginOf, IsBlamed, IsBlamedPlace, IsNoted, blame_if, with_possible};
+ghost use Rattle.sched_cli.specs.Searching.{Finds, FoundIn, IsBeginOf, IsBlamed, IsBlamedPlace, NotesBlame, blame_if, with_possible};
 
 use crate::blame::{Blame, Within, blame_of};
 use ical_lines::{Fault, Limits, Line, Unfolded, split_line, without_mark};
@@ -269,7 +269,7 @@ impl<'a> Search<'a> {
         property: &[u8],
         line: u64,
     ) -> Result<(), AllocError>
-        ensures noted { OnOk result (IsNoted self.old.found blame line property.now self.new.found) }
+        ensures noted { OnOk result (NotesBlame self.old.found blame line property.now self.new.found) }
         ensures sought { self.new.sought ≡ self.old.sought }
     {
         self.found = match blame {

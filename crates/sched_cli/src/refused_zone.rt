@@ -4,14 +4,13 @@ ghost use Rattle.std.specs.Prelude.{◌≡◌, true, IfOk, IfSome};
 ghost use Rattle.ical_lines.specs.Text.{line_text};
 ghost use Rattle.ical_tree.specs.Tree.{IsObjectOf, component_lines, tree_of};
 ghost use Rattle.profile.specs.text.Lines.{logical_lines};
-ghost use Rattle.profile.specs.doors.Uses.{is_time_line};
 ghost use Rattle.profile.specs.series.ZoneTexts.{ZoneFault};
 ghost use Rattle.cal_doors.specs.Named.{AreNamed};
-ghost use Rattle.sched_cli.specs.InTheWay.{IsInTheWay, IsPlaced, IsRefusedAs, NamesRefused, RefusedBy, sought_line};
+ghost use Rattle.sched_cli.specs.InTheWay.{IsInTheWay, IsPlacedInOctets, IsRefusedAs, NamesRefused, RefusedBy, sought_line};
 
 use crate::obstacle::{Obstacle, PartCause, cause_in};
 use crate::place::{Place, Sought, Spot, place_of};
-use cal_doors::NamedZones;
+use cal_doors::{NamedZones, is_time_line};
 use cal_zones::Zone;
 use ical_lines::{Fault, Limits, Line, Unfolded};
 use ical_tree::{Component, read_object};
@@ -160,17 +159,6 @@ fn is_refused(alloc: Global, zone: &Component, number: u8) -> Result<bool, Alloc
     }
 }
 
-/// Whether the values of a line are times.
-fn is_time_line(line: Line<'_>) -> bool
-    ensures { result ≡ is_time_line (line_text line.entry) }
-{
-    line.is_named("DTSTART")
-        || line.is_named("DTEND")
-        || line.is_named("RECURRENCE-ID")
-        || line.is_named("RDATE")
-        || line.is_named("EXDATE")
-}
-
 /// Which of the components of an object one is, counted from 0: the first that is the same.
 fn which(object: &Component, zone: &Component) -> usize {
     for (place, child) in object.children().iter().enumerate() {
@@ -188,7 +176,7 @@ fn placed(
     zone: usize,
     found: PartCause<'_>,
 ) -> Result<Option<InTheWay>, AllocError>
-    ensures { IfOk result (λ way. IfSome way (IsPlaced octets.now found.entry)) }
+    ensures { IfOk result (λ way. IfSome way (IsPlacedInOctets octets.now found.entry)) }
 {
     let spot = Spot {
         zone,

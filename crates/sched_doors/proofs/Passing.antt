@@ -3,7 +3,7 @@ use Rattle.std.proofs.Common.{◌≡◌, ℕ, Bool, false, List, [], ◌++◌, d
 use Rattle.std.specs.Io.KnownBytes.{Consumes, Keeps, IsAtEnd}
 use Rattle.profile.specs.text.Trees.{Tree}
 use Rattle.sched_doors.specs.Handing.{HandsOn, Passes}
-use Rattle.sched_doors.specs.Pieces.{KeepsButRead, TakesSome}
+use Rattle.sched_doors.specs.Pieces.{KeepsUnlessRead, TakesSome}
 use Rattle.sched_doors.specs.declared.fault.DoorFault.{DoorFault}
 use Rattle.sched_doors.specs.declared.fault.DoorFault.TheVariants.{Read, Memory}
 
@@ -65,7 +65,7 @@ pub well_marked : {X E : Type 0} (r : Result X E) (old mid new : Bool) → mid �
 well_marked (Ok x) old mid new same marked = marked ∙ same
 well_marked (Err e) old mid new same marked = tt
 
-pub told_from : {X : Type 0} (r : Result X DoorFault) (old mid new : Bool) → mid ≡ old → IfErr r (KeepsButRead mid new) → IfErr r (KeepsButRead old new)
+pub told_from : {X : Type 0} (r : Result X DoorFault) (old mid new : Bool) → mid ≡ old → IfErr r (KeepsUnlessRead mid new) → IfErr r (KeepsUnlessRead old new)
 told_from (Ok x) old mid new same told = tt
 told_from (Err Read) old mid new same told = tt
 told_from (Err Memory) old mid new same told = told ∙ same

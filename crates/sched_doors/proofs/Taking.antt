@@ -8,7 +8,7 @@ use Rattle.std.specs.Io.{StartsWith}
 use Rattle.std.specs.Io.KnownBytes.{Consumes, Keeps, IsAtEnd}
 use Rattle.ical_lines.specs.Cut.{ends_before, fresh}
 use Rattle.ical_lines.specs.declared.object_end.Cutter.{Cutter}
-use Rattle.sched_doors.specs.Pieces.{IsPieceEnd, TakesPiece, TakesSome, piece_of}
+use Rattle.sched_doors.specs.Pieces.{IsEndOfPiece, TakesDoorPiece, TakesSome, piece_after}
 use Rattle.sched_doors.specs.declared.piece.Piece.{Piece}
 use Rattle.sched_doors.specs.declared.piece.Piece.TheVariants.{Ended, Goes, End}
 
@@ -63,7 +63,7 @@ taken_some a c lent before after most count is within some takes added = record 
 -- a piece of an object
 pub taken_piece : (a c : Option (List ℕ)) (lent before after : List ℕ) (most count : ℕ) (ended : Bool) (cutter : Cutter) → most ≡ min (length lent) 65_536 → count ≤ length (take most lent)
     → (cutter ≡ fresh → ended ≡ true → 0 < count) → (ended ≡ false → count ≡ length (take most lent)) → TakesOf a c lent count
-    → after ≡ before ++ take count (take most lent) → TakesPiece a c cutter before after (piece_of count ended)
+    → after ≡ before ++ take count (take most lent) → TakesDoorPiece a c cutter before after (piece_after count ended)
 taken_piece a c lent before after most count ended cutter is within some all takes added = record {
   taken = take count (take most lent);
   consumed = subst (Consumes a c) (sym (same_piece lent most count within)) takes.consumed;
@@ -74,19 +74,19 @@ taken_piece a c lent before after most count ended cutter is within some all tak
     long : length (take count (take most lent)) ≡ count
     long = length-take-le count (take most lent) within
 
-    goes : (b : Bool) → nat_lt 0 count ≡ b → count ≡ length (take most lent) → IsPieceEnd a c cutter (take count (take most lent)) (cond b Goes End)
+    goes : (b : Bool) → nat_lt 0 count ≡ b → count ≡ length (take most lent) → IsEndOfPiece a c cutter (take count (take most lent)) (cond b Goes End)
     goes true e full = (let l : 0 < count = grind (arith, nat_tests) in omega (arith, l, long))
     goes false e full =
         let l : count ≡ 0 = grind (arith, nat_tests) in
         takes.end (none_lent lent most count is within (λ some. omega (arith, l, full, some)) (omega (arith, l, long)))
 
-    at : (b : Bool) → (cutter ≡ fresh → b ≡ true → 0 < count) → (b ≡ false → count ≡ length (take most lent)) → IsPieceEnd a c cutter (take count (take most lent)) (piece_of count b)
+    at : (b : Bool) → (cutter ≡ fresh → b ≡ true → 0 < count) → (b ≡ false → count ≡ length (take most lent)) → IsEndOfPiece a c cutter (take count (take most lent)) (piece_after count b)
     at true first full = λ new. (let s = first new refl in omega (arith, s, long))
     at false first full = goes (nat_lt 0 count) refl (full refl)
 
 -- octets were taken, and then a piece of an object that isn't its first: together some, or none at the end
 pub taken_more : (a b c : Option (List ℕ)) (before mid after : List ℕ) (cutter : Cutter) (piece : Piece) → ((taken : List ℕ) × Consumes a b taken × (mid ≡ before ++ taken))
-    → TakesPiece b c cutter mid after piece → (taken : List ℕ) × Consumes a c taken × (after ≡ before ++ taken)
+    → TakesDoorPiece b c cutter mid after piece → (taken : List ℕ) × Consumes a c taken × (after ≡ before ++ taken)
 taken_more a b c before mid after cutter piece (taken, consumed, added) t =
     (taken ++ t.taken, Consumes-trans a b c taken t.taken consumed t.consumed, t.added ∙ ap (λ (l : List ℕ). l ++ t.taken) added ∙ append_assoc before taken t.taken)
 
@@ -97,7 +97,7 @@ end_from (Some xs) (Some ys) taken P consumed p = p
 
 -- an object that ended: its first piece, or a later one, has octets
 pub ended_taken : (a b c : Option (List ℕ)) (before mid after : List ℕ) (cutter : Cutter) → length before ≡ 0 → ((taken : List ℕ) × Consumes a b taken × (mid ≡ before ++ taken))
-    → (length mid ≡ 0 → cutter ≡ fresh) → TakesPiece b c cutter mid after Ended → TakesSome a c before after
+    → (length mid ≡ 0 → cutter ≡ fresh) → TakesDoorPiece b c cutter mid after Ended → TakesSome a c before after
 ended_taken a b c before mid after cutter empty (taken, consumed, added) new t =
     record {
       taken = taken ++ t.taken;
@@ -109,7 +109,7 @@ ended_taken a b c before mid after cutter empty (taken, consumed, added) new t =
 
 -- an object that ended with the input
 pub last_taken : (a b c : Option (List ℕ)) (before mid after : List ℕ) (cutter : Cutter) → ((taken : List ℕ) × Consumes a b taken × (mid ≡ before ++ taken))
-    → TakesPiece b c cutter mid after End → TakesSome a c before after
+    → TakesDoorPiece b c cutter mid after End → TakesSome a c before after
 last_taken a b c before mid after cutter (taken, consumed, added) t = record {
   taken = taken ++ t.taken;
   consumed = Consumes-trans a b c taken t.taken consumed t.consumed;
@@ -135,20 +135,20 @@ positive zero some = absurd (some refl)
 positive (suc n) some = omega arith
 
 -- a piece that goes on has octets
-pub goes_some : (a c : Option (List ℕ)) (cutter : Cutter) (before after : List ℕ) (piece : Piece) → piece ≡ Goes → TakesPiece a c cutter before after piece → length after ≡ 0 → ⊥
+pub goes_some : (a c : Option (List ℕ)) (cutter : Cutter) (before after : List ℕ) (piece : Piece) → piece ≡ Goes → TakesDoorPiece a c cutter before after piece → length after ≡ 0 → ⊥
 goes_some a c cutter before after piece is t none =
-    let some : 0 < length t.taken = subst (IsPieceEnd a c cutter t.taken) is t.ends in
+    let some : 0 < length t.taken = subst (IsEndOfPiece a c cutter t.taken) is t.ends in
     omega (arith, ap length t.added, length-append before t.taken, some, none)
 
 -- so what is taken grows
-pub goes_more : (a c : Option (List ℕ)) (cutter : Cutter) (before after : List ℕ) (piece : Piece) (most : ℕ) → piece ≡ Goes → TakesPiece a c cutter before after piece → length before < most
+pub goes_more : (a c : Option (List ℕ)) (cutter : Cutter) (before after : List ℕ) (piece : Piece) (most : ℕ) → piece ≡ Goes → TakesDoorPiece a c cutter before after piece → length before < most
     → most - length after < most - length before
 goes_more a c cutter before after piece most is t few =
-    let some : 0 < length t.taken = subst (IsPieceEnd a c cutter t.taken) is t.ends in
+    let some : 0 < length t.taken = subst (IsEndOfPiece a c cutter t.taken) is t.ends in
     omega (arith, ap length t.added, length-append before t.taken, some, few)
 
 -- a piece that was taken alone
-pub piece_some : (a c : Option (List ℕ)) (cutter : Cutter) (before after : List ℕ) (piece : Piece) → before ≡ [] → TakesPiece a c cutter before after piece
+pub piece_some : (a c : Option (List ℕ)) (cutter : Cutter) (before after : List ℕ) (piece : Piece) → before ≡ [] → TakesDoorPiece a c cutter before after piece
     → (length after ≡ 0 → OnSome a (IsAtEnd c)) → TakesSome a c before after
 piece_some a c cutter before after piece empty t end = record {
   taken = t.taken;
@@ -157,6 +157,6 @@ piece_some a c cutter before after piece empty t end = record {
   end = λ none. end (omega (arith, ap length t.added, length-append before t.taken, ap length empty, none));
 }
 
-pub piece_alone : (a c : Option (List ℕ)) (cutter : Cutter) (before after : List ℕ) (piece : Piece) → before ≡ [] → after ≡ [] → TakesPiece a c cutter before after piece → Consumes a c []
+pub piece_alone : (a c : Option (List ℕ)) (cutter : Cutter) (before after : List ℕ) (piece : Piece) → before ≡ [] → after ≡ [] → TakesDoorPiece a c cutter before after piece → Consumes a c []
 piece_alone a c cutter before after piece empty none t =
     subst (Consumes a c) (sym (sym none ∙ t.added ∙ ap (λ (l : List ℕ). l ++ t.taken) empty)) t.consumed

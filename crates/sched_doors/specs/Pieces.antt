@@ -9,14 +9,14 @@ use Rattle.sched_doors.specs.declared.piece.Piece.{Piece}
 use Rattle.sched_doors.specs.declared.piece.Piece.TheVariants.{Ended, Goes, End}
 
 -- the reader is blamed only where it has failed
-abbrev pub StopsFor : Bool → DoorFault → Type 0
-StopsFor reader Read = reader ≡ true
-StopsFor reader Memory = Unit {0}
+abbrev pub IsCauseOf : Bool → DoorFault → Type 0
+IsCauseOf reader Read = reader ≡ true
+IsCauseOf reader Memory = Unit {0}
 
 -- and where it failed that is told: with the other fault its mark is as before
-abbrev pub KeepsButRead : Bool → Bool → DoorFault → Type 0
-KeepsButRead before after Read = Unit {0}
-KeepsButRead before after Memory = after ≡ before
+abbrev pub KeepsUnlessRead : Bool → Bool → DoorFault → Type 0
+KeepsUnlessRead before after Read = Unit {0}
+KeepsUnlessRead before after Memory = after ≡ before
 
 -- octets were taken and added to others; none only at the end of the input
 pub record TakesSome (old new : Option (List ℕ)) (before after : List ℕ) : Type 0 where
@@ -25,18 +25,18 @@ pub record TakesSome (old new : Option (List ℕ)) (before after : List ℕ) : T
   pub added : after ≡ before ++ taken
   pub end : length taken ≡ 0 → OnSome old (IsAtEnd new)
 
-abbrev pub piece_of : ℕ → Bool → Piece
-piece_of count ended = if ended then Ended else (if nat_lt 0 count then Goes else End)
+abbrev pub piece_after : ℕ → Bool → Piece
+piece_after count ended = if ended then Ended else (if nat_lt 0 count then Goes else End)
 
 -- an object goes on only with octets, it ends after some, and the input ends at its end
-abbrev pub IsPieceEnd : Option (List ℕ) → Option (List ℕ) → Cutter → List ℕ → Piece → Type 0
-IsPieceEnd old new cutter taken Ended = cutter ≡ fresh → 0 < length taken
-IsPieceEnd old new cutter taken Goes = 0 < length taken
-IsPieceEnd old new cutter taken End = OnSome old (IsAtEnd new)
+abbrev pub IsEndOfPiece : Option (List ℕ) → Option (List ℕ) → Cutter → List ℕ → Piece → Type 0
+IsEndOfPiece old new cutter taken Ended = cutter ≡ fresh → 0 < length taken
+IsEndOfPiece old new cutter taken Goes = 0 < length taken
+IsEndOfPiece old new cutter taken End = OnSome old (IsAtEnd new)
 
 -- octets were taken and added to others
-pub record TakesPiece (old new : Option (List ℕ)) (cutter : Cutter) (before after : List ℕ) (piece : Piece) : Type 0 where
+pub record TakesDoorPiece (old new : Option (List ℕ)) (cutter : Cutter) (before after : List ℕ) (piece : Piece) : Type 0 where
   pub taken : List ℕ
   pub consumed : Consumes old new taken
   pub added : after ≡ before ++ taken
-  pub ends : IsPieceEnd old new cutter taken piece
+  pub ends : IsEndOfPiece old new cutter taken piece

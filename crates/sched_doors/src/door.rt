@@ -5,7 +5,7 @@
 ghost use Rattle.std.specs.Prelude.{◌≡◌, [], drop, length, map, is_some, string_bytes, false, IfErr, OnErr, OnOk};
 ghost use Rattle.cal_doors.specs.Adapted.{list_of};
 ghost use Rattle.sched_doors.specs.Handing.{AreLentNone, HandsOn, Passes};
-ghost use Rattle.sched_doors.specs.Pieces.{KeepsButRead, StopsFor};
+ghost use Rattle.sched_doors.specs.Pieces.{KeepsUnlessRead, IsCauseOf};
 ghost use Rattle.sched_doors.specs.declared.fault.DoorFault.TheVariants.{Memory};
 
 use crate::fault::DoorFault;
@@ -110,9 +110,9 @@ impl<'c, 'a, R: Input + Drop> Door<'c, 'a, R> {
     pub fn pass(&mut self) -> Result<(), DoorFault>
         ensures passes { OnOk result (Passes (list_of self.old.listed) (R.remaining self.old.reader) (R.remaining self.new.reader) self.new.is_adapted (map string_bytes self.new.going_on.items) (drop self.new.consumed self.new.octets.items)) }
         ensures nothing { OnErr result (drop self.new.consumed self.new.octets.items ≡ []) }
-        ensures cause { IfErr result (StopsFor (R.has_failed self.new.reader)) }
+        ensures cause { IfErr result (IsCauseOf (R.has_failed self.new.reader)) }
         ensures mark { OnOk result (R.has_failed self.new.reader ≡ R.has_failed self.old.reader) }
-        ensures told { IfErr result (KeepsButRead (R.has_failed self.old.reader) (R.has_failed self.new.reader)) }
+        ensures told { IfErr result (KeepsUnlessRead (R.has_failed self.old.reader) (R.has_failed self.new.reader)) }
         ensures listed { self.new.listed ≡ self.old.listed }
         ensures fault { self.new.fault ≡ self.old.fault }
     {
@@ -131,9 +131,9 @@ impl<'c, 'a, R: Input + Drop> Door<'c, 'a, R> {
     fn pass_next(&mut self) -> Result<(), DoorFault>
         requires { AreLentNone self.old.octets.items self.old.consumed self.old.is_adapted self.old.going_on.items }
         ensures passes { OnOk result (Passes (list_of self.old.listed) (R.remaining self.old.reader) (R.remaining self.new.reader) self.new.is_adapted (map string_bytes self.new.going_on.items) (drop self.new.consumed self.new.octets.items)) }
-        ensures cause { IfErr result (StopsFor (R.has_failed self.new.reader)) }
+        ensures cause { IfErr result (IsCauseOf (R.has_failed self.new.reader)) }
         ensures mark { OnOk result (R.has_failed self.new.reader ≡ R.has_failed self.old.reader) }
-        ensures told { IfErr result (KeepsButRead (R.has_failed self.old.reader) (R.has_failed self.new.reader)) }
+        ensures told { IfErr result (KeepsUnlessRead (R.has_failed self.old.reader) (R.has_failed self.new.reader)) }
         ensures listed { self.new.listed ≡ self.old.listed }
         ensures fault { self.new.fault ≡ self.old.fault }
         ensures start { self.new.consumed ≡ 0 }
@@ -150,9 +150,9 @@ impl<'c, 'a, R: Input + Drop> Door<'c, 'a, R> {
     fn pass_first(&mut self) -> Result<(), DoorFault>
         requires { AreLentNone self.old.octets.items self.old.consumed self.old.is_adapted self.old.going_on.items }
         ensures passes { OnOk result (Passes (list_of self.old.listed) (R.remaining self.old.reader) (R.remaining self.new.reader) self.new.is_adapted (map string_bytes self.new.going_on.items) (drop self.new.consumed self.new.octets.items)) }
-        ensures cause { IfErr result (StopsFor (R.has_failed self.new.reader)) }
+        ensures cause { IfErr result (IsCauseOf (R.has_failed self.new.reader)) }
         ensures mark { OnOk result (R.has_failed self.new.reader ≡ R.has_failed self.old.reader) }
-        ensures told { IfErr result (KeepsButRead (R.has_failed self.old.reader) (R.has_failed self.new.reader)) }
+        ensures told { IfErr result (KeepsUnlessRead (R.has_failed self.old.reader) (R.has_failed self.new.reader)) }
         ensures listed { self.new.listed ≡ self.old.listed }
         ensures fault { self.new.fault ≡ self.old.fault }
         ensures start { self.new.consumed ≡ 0 }
@@ -168,9 +168,9 @@ impl<'c, 'a, R: Input + Drop> Door<'c, 'a, R> {
     fn pass_preamble(&mut self, line: LineSoFar) -> Result<(), DoorFault>
         requires { AreLentNone self.old.octets.items self.old.consumed self.old.is_adapted self.old.going_on.items }
         ensures passes { OnOk result (Passes (list_of self.old.listed) (R.remaining self.old.reader) (R.remaining self.new.reader) self.new.is_adapted (map string_bytes self.new.going_on.items) (drop self.new.consumed self.new.octets.items)) }
-        ensures cause { IfErr result (StopsFor (R.has_failed self.new.reader)) }
+        ensures cause { IfErr result (IsCauseOf (R.has_failed self.new.reader)) }
         ensures mark { OnOk result (R.has_failed self.new.reader ≡ R.has_failed self.old.reader) }
-        ensures told { IfErr result (KeepsButRead (R.has_failed self.old.reader) (R.has_failed self.new.reader)) }
+        ensures told { IfErr result (KeepsUnlessRead (R.has_failed self.old.reader) (R.has_failed self.new.reader)) }
         ensures listed { self.new.listed ≡ self.old.listed }
         ensures fault { self.new.fault ≡ self.old.fault }
         ensures start { self.new.consumed ≡ 0 }
@@ -186,9 +186,9 @@ impl<'c, 'a, R: Input + Drop> Door<'c, 'a, R> {
     fn pass_long(&mut self, cutter: Cutter) -> Result<(), DoorFault>
         requires { AreLentNone self.old.octets.items self.old.consumed self.old.is_adapted self.old.going_on.items }
         ensures passes { OnOk result (Passes (list_of self.old.listed) (R.remaining self.old.reader) (R.remaining self.new.reader) self.new.is_adapted (map string_bytes self.new.going_on.items) (drop self.new.consumed self.new.octets.items)) }
-        ensures cause { IfErr result (StopsFor (R.has_failed self.new.reader)) }
+        ensures cause { IfErr result (IsCauseOf (R.has_failed self.new.reader)) }
         ensures mark { OnOk result (R.has_failed self.new.reader ≡ R.has_failed self.old.reader) }
-        ensures told { IfErr result (KeepsButRead (R.has_failed self.old.reader) (R.has_failed self.new.reader)) }
+        ensures told { IfErr result (KeepsUnlessRead (R.has_failed self.old.reader) (R.has_failed self.new.reader)) }
         ensures listed { self.new.listed ≡ self.old.listed }
         ensures fault { self.new.fault ≡ self.old.fault }
         ensures start { self.new.consumed ≡ 0 }
@@ -215,9 +215,9 @@ impl<'c, 'a, R: Input + Drop> Door<'c, 'a, R> {
     fn pass_object(&mut self) -> Result<(), DoorFault>
         requires { AreLentNone self.old.octets.items self.old.consumed self.old.is_adapted self.old.going_on.items }
         ensures passes { OnOk result (Passes (list_of self.old.listed) (R.remaining self.old.reader) (R.remaining self.new.reader) self.new.is_adapted (map string_bytes self.new.going_on.items) (drop self.new.consumed self.new.octets.items)) }
-        ensures cause { IfErr result (StopsFor (R.has_failed self.new.reader)) }
+        ensures cause { IfErr result (IsCauseOf (R.has_failed self.new.reader)) }
         ensures mark { OnOk result (R.has_failed self.new.reader ≡ R.has_failed self.old.reader) }
-        ensures told { IfErr result (KeepsButRead (R.has_failed self.old.reader) (R.has_failed self.new.reader)) }
+        ensures told { IfErr result (KeepsUnlessRead (R.has_failed self.old.reader) (R.has_failed self.new.reader)) }
         ensures listed { self.new.listed ≡ self.old.listed }
         ensures fault { self.new.fault ≡ self.old.fault }
         ensures start { self.new.consumed ≡ 0 }

@@ -2,7 +2,7 @@
 
 ghost use Rattle.std.specs.Prelude.{◌≡◌, ◌<◌, ◌≤◌, true, false, length, IfErr, IfOk, OnErr, OnOk};
 ghost use Rattle.ical_lines.specs.Cut.{fresh};
-ghost use Rattle.sched_doors.specs.Pieces.{KeepsButRead, StopsFor, TakesPiece, TakesSome, piece_of};
+ghost use Rattle.sched_doors.specs.Pieces.{KeepsUnlessRead, IsCauseOf, TakesDoorPiece, TakesSome, piece_after};
 
 use crate::fault::DoorFault;
 use ical_lines::Cutter;
@@ -33,9 +33,9 @@ pub(crate) fn take_object<R: Input>(
     requires new { cutter.old ≡ fresh }
     requires nothing { length octets.old.items ≡ 0 }
     ensures takes { OnOk result (TakesSome (R.remaining reader.old) (R.remaining reader.new) octets.old.items octets.new.items) }
-    ensures cause { IfErr result (StopsFor (R.has_failed reader.new)) }
+    ensures cause { IfErr result (IsCauseOf (R.has_failed reader.new)) }
     ensures mark { OnOk result (R.has_failed reader.new ≡ R.has_failed reader.old) }
-    ensures told { IfErr result (KeepsButRead (R.has_failed reader.old) (R.has_failed reader.new)) }
+    ensures told { IfErr result (KeepsUnlessRead (R.has_failed reader.old) (R.has_failed reader.new)) }
 {
     while octets.len() <= MOST_OCTETS {
         match take_piece(reader, cutter, octets)? {
@@ -53,10 +53,10 @@ pub(crate) fn take_piece<R: Input>(
     cutter: &mut Cutter,
     octets: &mut Vec<u8>,
 ) -> Result<Piece, DoorFault>
-    ensures takes { IfOk result (TakesPiece (R.remaining reader.old) (R.remaining reader.new) cutter.old octets.old.items octets.new.items) }
-    ensures cause { IfErr result (StopsFor (R.has_failed reader.new)) }
+    ensures takes { IfOk result (TakesDoorPiece (R.remaining reader.old) (R.remaining reader.new) cutter.old octets.old.items octets.new.items) }
+    ensures cause { IfErr result (IsCauseOf (R.has_failed reader.new)) }
     ensures mark { OnOk result (R.has_failed reader.new ≡ R.has_failed reader.old) }
-    ensures told { IfErr result (KeepsButRead (R.has_failed reader.old) (R.has_failed reader.new)) }
+    ensures told { IfErr result (KeepsUnlessRead (R.has_failed reader.old) (R.has_failed reader.new)) }
 {
     let Ok(()) = lend(reader) else {
         return Err(DoorFault::Read);
@@ -78,7 +78,7 @@ struct CutPiece {
 
 impl CutPiece {
     fn piece(self) -> Piece
-        ensures { result ≡ piece_of self.count self.ended }
+        ensures { result ≡ piece_after self.count self.ended }
     {
         if self.ended {
             Piece::Ended

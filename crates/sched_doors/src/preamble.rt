@@ -2,7 +2,7 @@
 
 ghost use Rattle.std.specs.Prelude.{◌≡◌, ◌<◌, ◌≤◌, length, IfErr, IfOk, OnErr, OnOk};
 ghost use Rattle.std.specs.Io.KnownBytes.{Keeps};
-ghost use Rattle.sched_doors.specs.Pieces.{KeepsButRead, StopsFor, TakesSome};
+ghost use Rattle.sched_doors.specs.Pieces.{KeepsUnlessRead, IsCauseOf, TakesSome};
 
 use crate::fault::DoorFault;
 use crate::piece::PIECE;
@@ -29,9 +29,9 @@ pub(crate) struct Scanned {
 /// Whether a preamble comes first: what is read begins with none of the octets that an object or an empty line begins with.
 pub(crate) fn begins_with_preamble<R: Input>(reader: &mut R) -> Result<bool, DoorFault>
     ensures keeps { Keeps (R.remaining reader.old) (R.remaining reader.new) }
-    ensures cause { IfErr result (StopsFor (R.has_failed reader.new)) }
+    ensures cause { IfErr result (IsCauseOf (R.has_failed reader.new)) }
     ensures mark { OnOk result (R.has_failed reader.new ≡ R.has_failed reader.old) }
-    ensures told { IfErr result (KeepsButRead (R.has_failed reader.old) (R.has_failed reader.new)) }
+    ensures told { IfErr result (KeepsUnlessRead (R.has_failed reader.old) (R.has_failed reader.new)) }
 {
     let Ok(()) = lend(reader) else {
         return Err(DoorFault::Read);
@@ -50,9 +50,9 @@ pub(crate) fn take_preamble<R: Input>(
     octets: &mut Vec<u8>,
 ) -> Result<Option<LineSoFar>, DoorFault>
     ensures takes { OnOk result (TakesSome (R.remaining reader.old) (R.remaining reader.new) octets.old.items octets.new.items) }
-    ensures cause { IfErr result (StopsFor (R.has_failed reader.new)) }
+    ensures cause { IfErr result (IsCauseOf (R.has_failed reader.new)) }
     ensures mark { OnOk result (R.has_failed reader.new ≡ R.has_failed reader.old) }
-    ensures told { IfErr result (KeepsButRead (R.has_failed reader.old) (R.has_failed reader.new)) }
+    ensures told { IfErr result (KeepsUnlessRead (R.has_failed reader.old) (R.has_failed reader.new)) }
 {
     let Ok(()) = lend(reader) else {
         return Err(DoorFault::Read);

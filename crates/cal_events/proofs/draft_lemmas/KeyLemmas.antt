@@ -10,7 +10,7 @@ use Rattle.std.specs.List.{AllAdjacentBelow, list_any}
 use Rattle.std.proofs.lemmas.List.Folds.{list_any_at, list_any_none}
 use Rattle.std.specs.Result.{is_err}
 use Rattle.std.specs.List.Sorted.{IsPermutation, IsSortedBy, IsSortedByKey, IsSearchInRange, IsBinarySearchResult}
-use Rattle.std.proofs.lemmas.Bool.{cases_lt, cases_order, true≢false, and_parts}
+use Rattle.std.proofs.lemmas.Bool.{cases_lt, true≢false, and_parts}
 use Rattle.std.proofs.lemmas.Cmp.{on_total, then_total, nat_list_cmp_total, int_cmp_total}
 use Rattle.std.proofs.lemmas.List.Sorted.{sorted_far, searchable_from_sorted, ranks_by}
 use Rattle.std.proofs.lemmas.Map.Lookups.{exact_pairs, exact_bytes, exact_signed}
@@ -21,7 +21,7 @@ use Rattle.std.proofs.lemmas.Bool.Decides.{Decides-int_eq}
 use Rattle.std.proofs.lemmas.List.{get_or-map, get_or_default, length-map}
 use Rattle.cal_events.specs.Calendar.{key_of}
 use Rattle.cal_events.specs.declared.instance.InstanceKey.{InstanceKey}
-use Rattle.cal_events.proofs.shared_lemmas.Distinct.{Distinct, distinct_permutation}
+use Rattle.cal_events.proofs.shared_lemmas.Distinct.{pairs_permuted}
 
 pub key_total : IsTotalOrder key_cmp
 key_total =
@@ -70,18 +70,8 @@ module _ (ks : List Key) (up : IsSortedBy (λ a b. is_lt (key_cmp a b)) ks) wher
       differ i d (omega arith) (tie (get_or ks i d) (get_or ks (i + 1) d) far' next)
 
 -- what differs in one order differs in another
-pub pairs_distinct : {X : Type 0} (ks : List X) → AllPairs ◌≢◌ ks → Distinct ◌≢◌ ks
-pairs_distinct ks p i j d hi hj ne e =
-    elim (cases_order i j) [
-      | inl same ↦ ne same
-      | inr w ↦ elim w [ inl lt ↦ p i j d lt hj e | inr lt ↦ p j i d lt hi (sym e) ]
-    ]
-
-pub distinct_pairs : {X : Type 0} (ks : List X) → Distinct ◌≢◌ ks → AllPairs ◌≢◌ ks
-distinct_pairs ks h i j d lt w e = h i j d (omega arith) w (omega arith) e
-
 pub pairs_permutation : {X : Type 0} (xs ys : List X) → IsPermutation xs ys → AllPairs ◌≢◌ xs → AllPairs ◌≢◌ ys
-pairs_permutation xs ys same p = distinct_pairs ys (distinct_permutation ◌≢◌ xs ys same (pairs_distinct xs p))
+pairs_permutation xs ys same p = pairs_permuted ◌≢◌ (λ a b differ e. differ (sym e)) xs ys same p
 
 -- ---- keys that borrow their texts
 

@@ -1,11 +1,12 @@
 -- What holds of each two places of a list holds of each two places of the list in another order.
 -- Behind Calendar::of_object of calendar, Calendar::read of calendar, Draft::add of draft, Draft::into_calendar of draft, add_singles of draft, has_equal_neighbours of draft and 7 more.
-use Rattle.std.proofs.Common.{◌≡◌, ◌≢◌, ℕ, zero, suc, ◌<◌, ◌==◌, cond, List, [], ◌∷◌, length, get_or, subst, sym, refl, ap, ◌∙◌, inl, inr, arith}
+use Rattle.std.proofs.Common.{◌≡◌, ◌≢◌, ℕ, zero, suc, ◌<◌, ◌≤◌, ◌==◌, cond, List, [], ◌∷◌, length, get_or, subst, sym, refl, ap, ◌∙◌, inl, inr, arith}
+use Rattle.std.specs.Prelude.{AllPairs}
 use Rattle.std.specs.List.{swap}
 use Rattle.std.specs.List.Sorted.{IsPermutation}
 use Rattle.std.proofs.lemmas.List.Edits.{swapped_from_swap, length-swap}
 use Rattle.std.proofs.lemmas.List.Sorted.{IsPermutation-keeps}
-use Rattle.std.proofs.lemmas.Bool.{cases_eq}
+use Rattle.std.proofs.lemmas.Bool.{cases_eq, cases_lt}
 use Rattle.std.proofs.lemmas.Bool.Decides.{nat_tests}
 
 -- R holds of each two places that differ
@@ -44,6 +45,19 @@ distinct_swap {X} R xs a b ha hb h i j d hi hj ne =
 pub distinct_permutation : {X : Type 0} (R : X → X → Type 0) (xs ys : List X) → IsPermutation xs ys → Distinct R xs → Distinct R ys
 distinct_permutation {X} R xs ys same h =
     IsPermutation-keeps xs (Distinct R) h (λ l i j hi hj p. distinct_swap R l i j hi hj p) ys same
+
+-- a relation of both directions: what holds of each and each later one does so in another order
+pub pairs_permuted : {X : Type 0} (R : X → X → Type 0) → ((a b : X) → R a b → R b a) → (xs ys : List X) → IsPermutation xs ys → AllPairs R xs → AllPairs R ys
+pairs_permuted {X} R back xs ys same p =
+    let distinct : Distinct R xs = λ i j d hi hj ne. elim (cases_lt i j) [
+      | inl less ↦ p i j d less hj
+      | inr from ↦ back (get_or xs j d) (get_or xs i d) (p j i d (below i j from ne) hi)
+    ] in
+    let turned = distinct_permutation R xs ys same distinct in
+    λ i j d less within. turned i j d (omega (arith, less, within)) within (λ e. omega (arith, less, e))
+  where
+    below : (i j : ℕ) → j ≤ i → i ≢ j → j < i
+    below i j h n = grind arith
 
 pub distinct_nil : {X : Type 0} (R : X → X → Type 0) → Distinct R []
 distinct_nil R i j d hi hj ne = absurd (omega arith)

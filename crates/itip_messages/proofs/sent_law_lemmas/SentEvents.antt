@@ -7,10 +7,9 @@ use Rattle.std.specs.Str.{bytes_eq}
 use Rattle.profile.specs.events.EventComponents.{Attendee, EventComponent, Request, SaysEventComponent}
 use Rattle.profile.specs.events.Messages.{counted}
 use Rattle.profile.specs.organisers.Sent.{Component, IsComponentOf, IsComponentText, status_lines}
-use Rattle.profile.specs.rooms.Messages.{Content, IsContent, WritesListed, may_take, TellsSlot, slot_named, slot_of}
+use Rattle.profile.specs.rooms.Messages.{Content, IsContent, WritesListed, may_take, slot_of}
 use Rattle.profile.specs.rooms.Revisions.{Revision, Slot}
 use Rattle.profile.specs.text.Values.{IsUid, escaped}
-use Rattle.cal_events.specs.MeetingComponents.{IsInEventDates}
 use Rattle.cal_events.proofs.shared_lemmas.InOneOrder.{of_filtered}
 use Rattle.ical_lines.proofs.CleanLines.{clean_shown, shown_decimal}
 use Rattle.ical_values.proofs.Escapes.{read_back}
@@ -26,31 +25,15 @@ use Rattle.itip_messages.proofs.shared_lemmas.CleanUids.{clean_text}
 use Rattle.itip_messages.proofs.shared_lemmas.ObjectTree.{Lines, vevent_lines}
 use Rattle.itip_messages.proofs.shared_lemmas.ReplyLines.{AreOwn}
 use Rattle.itip_messages.proofs.sent_law_lemmas.SentContents.{added_same, same_content, taken_same}
-use Rattle.itip_messages.proofs.shared_lemmas.OwnLines.{SpellPart, SpellSlot, event_again, own_front, own_lines, own_says, slot_lines, when_lines}
+use Rattle.itip_messages.proofs.shared_lemmas.OwnLines.{SpellPart, event_again, own_front, own_lines, own_says, when_lines}
+use Rattle.itip_messages.proofs.shared_lemmas.ToldSlots.{slot_told}
 use Rattle.itip_messages.proofs.sent_law_lemmas.SentBehind.{IsAttendeeText, behind_own, behind_says, own_back}
 use Rattle.itip_messages.proofs.shared_lemmas.SentTexts.{text_of}
-use Rattle.itip_messages.proofs.shared_lemmas.OwnWhen.{IsCleanSlot, are_own, duration_clean, duration_of, when_of, written_rule}
+use Rattle.itip_messages.proofs.shared_lemmas.OwnWhen.{are_own, duration_clean, duration_of, when_of, written_rule}
 use Rattle.itip_messages.proofs.sent_law_lemmas.StoredEvents.{IsStored}
 use Rattle.itip_messages.proofs.shared_lemmas.ZonedObjects.{IsZonedTree}
 use Rattle.itip_messages.proofs.shared_lemmas.ZonedStarts.{name_means, name_plain}
 use Rattle.itip_messages.proofs.body_lemmas.ZonePlaces.{named_lines}
-
--- ---- RECURRENCE-ID
-
-record SlotTold (recurrence : Option ℤ) (lines : Lines) : Type 0 where
-  text : Option (List ℕ)
-  are : lines ≡ slot_lines text
-  spells : SpellSlot text recurrence
-  clean : IsCleanSlot text
-
-slot_told : (o : Option ℤ) (lines : Lines) → TellsSlot (slot_named o) lines → ((t : ℤ) → o ≡ Some t → IsInEventDates t) → SlotTold o lines
-slot_told None lines e dated = record { text = None; are = e; spells = tt; clean = tt }
-slot_told (Some t) lines (text, w, e) dated = record {
-  text = Some text;
-  are = e;
-  spells = (stamp_written text t w, dated t refl);
-  clean = clean_shown text (shown_stamp text t w);
-}
 
 -- ---- attendees
 

@@ -51,6 +51,10 @@ kept_by_more old before new a kept e =
 pub kept_by_none : (old before new : List ℕ) → take (length old) before ≡ old → new ≡ before → take (length old) new ≡ old
 kept_by_none old before new kept e = rw e kept
 
+-- and is what is left where all else is taken back
+pub taken_back : (old before failed new : List ℕ) (kept : ℕ) → take (length old) before ≡ old → failed ≡ before → kept ≡ length old → new ≡ take kept failed → new ≡ old
+taken_back old before failed new kept stays same is e = e ∙ ap (λ n. take n failed) is ∙ ap (take (length old)) same ∙ stays
+
 -- the first lines of an object
 pub opened : (old start one two three new a b d m : List ℕ) → start ≡ old → one ≡ start ++ a → two ≡ one ++ b → three ≡ two ++ d → new ≡ three ++ m → new ≡ old ++ (a ++ (b ++ (d ++ m)))
 opened old start one two three new a b d m e0 e1 e2 e3 e4 = rw (e4, e3, e2, e1, e0) (simp append_assoc)

@@ -13,7 +13,7 @@ use Rattle.std.proofs.lemmas.List.{get_or-map, get_or_default, length-map, map-a
 use Rattle.std.proofs.lemmas.List.Elements.{Contains-append_left, Contains-append_right, Contains-append_cases}
 use Rattle.std.proofs.lemmas.Option.{slice_get-get_or, get_or_from_slice_get}
 use Rattle.clash_cert.specs.declared.making.Clash.{Clash}
-use Rattle.clash_cert.specs.Makings.{AreNamed, HasKeys}
+use Rattle.clash_cert.specs.Makings.{AreBothNamed, HasKeys}
 use Rattle.clash_cert.proofs.MakingLemmas.{less_from_before, less_from_not_before}
 use Rattle.cal_events.specs.Calendar.{owned_key_of}
 use Rattle.cal_events.specs.Sweep as sweep
@@ -27,7 +27,7 @@ use Rattle.room_books.specs.declared.meeting.MeetingKey.{MeetingKey}
 use Rattle.cal_events.specs.declared.instance.Single.{Single}
 use Rattle.room_books.specs.declared.kept.Meeting.{Meeting}
 use Rattle.room_books.specs.declared.meeting.Outcome.{Outcome}
-use Rattle.room_books.specs.Gone.{HaveInstant, IsLater, IsParted, Overlap, AreSeparate}
+use Rattle.room_books.specs.Gone.{HaveInstant, IsLater, IsPartedInto, Overlap, AreSeparate}
 use Rattle.room_books.specs.Taking.{DecidesAmong, IsDecision}
 use Rattle.room_books.specs.Meeting.{all_confirmed, keyed_instance, instance_list, others, outcome_of, same_key, singles_by, slots_of, spans_of, instance_span, AreAllApart, HaveOverlap, IsSpanFree}
 use Rattle.room_books.proofs.shared_lemmas.Leaving.{Apart, kept_separate, kept_within}
@@ -57,7 +57,7 @@ later_is_first a b t l h = elim l.one [ inl e ↦ e | inr e ↦ (let s = l.first
 
 -- two instances that share an instant are named as a decline does
 pub names_these : (these : Instance → Type 0) (x y : Instance) (clash : Clash) → these x → these y → x.key ≢ y.key → Overlap (instance_span x) (instance_span y)
-    → IsLater (instance_span x) (instance_span y) clash.instant → AreNamed x y clash.instant clash → NamesClash these (owned_key_of clash.first) (owned_key_of clash.second) clash.instant
+    → IsLater (instance_span x) (instance_span y) clash.instant → AreBothNamed x y clash.instant clash → NamesClash these (owned_key_of clash.first) (owned_key_of clash.second) clash.instant
 names_these these x y clash in_x in_y differ overlap later named =
     let shared = overlap clash.instant later in
     elim (cases_Bool (is_lt (instance_cmp y x))) [
@@ -125,13 +125,13 @@ module _ (all : List Instance) (k : MeetingKey) (kept wanted : List Single) (dif
 
   -- two own ones clash
   pub own_named : (s r : Single) (clash : Clash) → Contains (kept ++ wanted) s → Contains (kept ++ wanted) r → s.slot ≢ r.slot → Overlap s.span r.span
-      → IsLater s.span r.span clash.instant → AreNamed (keyed_instance k s) (keyed_instance k r) clash.instant clash → NamesClash (Contains both) (owned_key_of clash.first) (owned_key_of clash.second) clash.instant
+      → IsLater s.span r.span clash.instant → AreBothNamed (keyed_instance k s) (keyed_instance k r) clash.instant clash → NamesClash (Contains both) (owned_key_of clash.first) (owned_key_of clash.second) clash.instant
   own_named s r clash in_s in_r slots overlap later named =
       names_these (Contains both) (keyed_instance k s) (keyed_instance k r) clash (own_in s in_s) (own_in r in_r) (λ e. slots (ap (λ (z : Key). z.slot) e)) overlap later named
 
   -- one that is asked for clashes with one that stays confirmed, of another meeting or of the same
   pub staying_named : AllPairs ◌≢◌ (slots_of (kept ++ wanted)) → (s : Single) (b : Instance) (clash : Clash) → Contains wanted s → Contains (all ++ instance_list k kept) b → Overlap s.span (instance_span b)
-      → IsLater s.span (instance_span b) clash.instant → AreNamed (keyed_instance k s) b clash.instant clash → NamesClash (Contains both) (owned_key_of clash.first) (owned_key_of clash.second) clash.instant
+      → IsLater s.span (instance_span b) clash.instant → AreBothNamed (keyed_instance k s) b clash.instant clash → NamesClash (Contains both) (owned_key_of clash.first) (owned_key_of clash.second) clash.instant
   staying_named distinct s b clash in_s in_b overlap later named = elim (Contains-append_cases all (instance_list k kept) b in_b) [
     | inl other ↦ names_these (Contains both) (keyed_instance k s) b clash (own_in s (Contains-append_right kept wanted s in_s)) (Contains-append_left all (instance_list k (kept ++ wanted)) b other)
         (λ e. differ s b other (sym e)) overlap later named
@@ -284,7 +284,7 @@ place_in all place x d l e = slice_get-get_or all place d l ∙ ap Some e
 -- ---- what is decided
 
 module _ (k : MeetingKey) (es : List (MeetingKey × Meeting)) (distinct_keys : IsDistinct same_key (keys_of es)) (clear : IsClear (Contains (all_confirmed es))) (apart : AreAllApart es)
-    (beside : ℕ) (few : beside ≤ 10_000) (gone kept wanted : List Single) (parted : IsParted (singles_by (lookup (same_key k) es)) gone kept) (beside_is : beside ≡ length (others k es) + length kept) where
+    (beside : ℕ) (few : beside ≤ 10_000) (gone kept wanted : List Single) (parted : IsPartedInto (singles_by (lookup (same_key k) es)) gone kept) (beside_is : beside ≡ length (others k es) + length kept) where
   abbrev other : List Instance
   other = others k es
 
@@ -311,7 +311,7 @@ module _ (k : MeetingKey) (es : List (MeetingKey × Meeting)) (distinct_keys : I
   }
 
   pub decides_own : (outcome : Outcome) (clash : Clash) (s r : Single) → outcome_of outcome ≡ messages.Busy (owned_key_of clash.first) (owned_key_of clash.second) clash.instant → length wanted ≤ 10_000 - beside
-      → HaveOverlap wanted (Some (s, r)) → IsLater s.span r.span clash.instant → AreNamed (keyed_instance k s) (keyed_instance k r) clash.instant clash → IsDecision other k kept wanted outcome
+      → HaveOverlap wanted (Some (s, r)) → IsLater s.span r.span clash.instant → AreBothNamed (keyed_instance k s) (keyed_instance k r) clash.instant clash → IsDecision other k kept wanted outcome
   decides_own outcome clash s r is few_more overlap later named =
       decides_clash outcome clash is few_more (λ distinct.
       let slots : AllPairs ◌≢◌ (slots_of wanted) = pairs_from ◌≢◌ (slots_of wanted) (pairs_right ◌≢◌ (slots_of kept) (slots_of wanted) (pairs_to ◌≢◌ (slots_of kept ++ slots_of wanted)
@@ -319,7 +319,7 @@ module _ (k : MeetingKey) (es : List (MeetingKey × Meeting)) (distinct_keys : I
       own_named other k kept wanted own_differ s r clash (Contains-append_right kept wanted s overlap.0) (Contains-append_right kept wanted r overlap.1) (overlap.2 slots) overlap.3 later named)
 
   pub decides_beside : (outcome : Outcome) (clash : Clash) (s : Single) (b : Instance) → outcome_of outcome ≡ messages.Busy (owned_key_of clash.first) (owned_key_of clash.second) clash.instant → length wanted ≤ 10_000 - beside
-      → Contains wanted s → Contains (other ++ instance_list k kept) b → Overlap s.span (instance_span b) → IsLater s.span (instance_span b) clash.instant → AreNamed (keyed_instance k s) b clash.instant clash → IsDecision other k kept wanted outcome
+      → Contains wanted s → Contains (other ++ instance_list k kept) b → Overlap s.span (instance_span b) → IsLater s.span (instance_span b) clash.instant → AreBothNamed (keyed_instance k s) b clash.instant clash → IsDecision other k kept wanted outcome
   decides_beside outcome clash s b is few_more in_s in_b overlap later named =
       decides_clash outcome clash is few_more (λ distinct. staying_named other k kept wanted own_differ distinct s b clash in_s in_b overlap later named)
 

@@ -34,9 +34,10 @@ use Rattle.cal_events.specs.MeetingComponents.{IsInEventDates}
 use Rattle.cal_events.proofs.shared_lemmas.InRooms.{fixed_placed}
 use Rattle.cal_events.proofs.shared_lemmas.RoomClocks.{room_clock}
 use Rattle.itip_messages.specs.SentLaw.{time_as}
-use Rattle.itip_messages.proofs.shared_lemmas.OwnLines.{SpellSlot, slot_lines, own_front, when_lines}
+use Rattle.itip_messages.proofs.shared_lemmas.ToldSlots.{slot_told}
+use Rattle.itip_messages.proofs.shared_lemmas.OwnLines.{own_front, when_lines}
 use Rattle.room_books.proofs.laws_lemmas.KeptOwn.{SpellPart, own_back, own_lines, zoned_event, zoned_own, zoned_says}
-use Rattle.itip_messages.proofs.shared_lemmas.OwnWhen.{IsCleanSlot, duration_clean, duration_of, when_of, written_rule}
+use Rattle.itip_messages.proofs.shared_lemmas.OwnWhen.{duration_clean, duration_of, when_of, written_rule}
 use Rattle.itip_messages.proofs.shared_lemmas.ZonedStarts.{IsSaid, name_means_in, name_plain}
 use Rattle.room_books.proofs.laws_lemmas.KeptEvents.{hidden_own, hidden_event, hidden_says, kept_confirmed}
 use Rattle.room_books.proofs.laws_lemmas.KeptTimes.{IsAsWritten, back_same, taken_written}
@@ -64,21 +65,6 @@ pub record ReadsBack (zone : Option Zone) (opening : Lines) (zones : List (List 
 
 -- ---- RECURRENCE-ID, as it is written and read
 
-record SlotTold (recurrence : Option ℤ) (lines : Lines) : Type 0 where
-  text : Option (List ℕ)
-  are : lines ≡ slot_lines text
-  spells : SpellSlot text recurrence
-  clean : IsCleanSlot text
-
-slot_told : (o : Option ℤ) (lines : Lines) → TellsSlot (slot_named o) lines → ((t : ℤ) → o ≡ Some t → IsInEventDates t) → SlotTold o lines
-slot_told None lines e dated = record { text = None; are = e; spells = tt; clean = tt }
-slot_told (Some t) lines (text, w, e) dated = record {
-  text = Some text;
-  are = e;
-  spells = (stamp_written text t w, dated t refl);
-  clean = clean_shown text (shown_stamp text t w);
-}
-
 -- it is written in UTC, so it means itself in each room
 slot_itself : (zone : Option Zone) (o : Option ℤ) → BothOrNeither (IsAt zone) (option_map (time_as Fixed) o) o
 slot_itself z None = tt
@@ -90,7 +76,7 @@ slot_there z None recurrence None e at h = absurd (true≢false (sym h))
 slot_there z None recurrence (Some t) e at h = absurd at
 slot_there z (Some time) recurrence slot e at h = ap is_some e
 
-instant_there : (o : Option ℤ) (t : ℤ) → slot_named o ≡ At t → o ≡ Some t
+pub instant_there : (o : Option ℤ) (t : ℤ) → slot_named o ≡ At t → o ≡ Some t
 instant_there None t e = cc
 instant_there (Some u) t e = ap Some (ap instant e)
   where

@@ -38,7 +38,7 @@ use Rattle.room_books.specs.Slots.{Reordered}
 use Rattle.room_books.specs.Room.{Pairwise}
 use Rattle.room_books.specs.Texts.{SpellsConfirmed}
 use Rattle.room_books.proofs.shared_lemmas.AcceptedSlots.{slot_same}
-use Rattle.room_books.proofs.laws_lemmas.KeptAnswers.{IsAskedFor, shows_back, hides_back, set_body, set_zone}
+use Rattle.room_books.proofs.laws_lemmas.KeptAnswers.{IsAskedFor, instant_there, shows_back, hides_back, set_body, set_zone}
 use Rattle.itip_messages.proofs.law_lemmas.PartTexts.{IsRoom, asked_room}
 use Rattle.room_books.proofs.laws_lemmas.KeptEntries.{SamePlace, EntriesDiffer, place_there, place_from, meeting_from, claims_confirmed, claims_kept, claims_same, entries_differ, entry_placed, of_claims}
 use Rattle.room_books.proofs.laws_lemmas.KeptInstances.{IsHiding, none_left, series_left, singles_left}
@@ -201,14 +201,6 @@ series_where room said = by (is_kept room said) (is_master said) (is_some said.r
     by false b c = refl
 
 -- ---- what is left of each
-
-instant_there : (o : Option ℤ) (t : ℤ) → slot_named o ≡ At t → o ≡ Some t
-instant_there None t e = cc
-instant_there (Some u) t e = ap Some (ap instant e)
-  where
-    instant : Slot → ℤ
-    instant Whole = t
-    instant (At x) = x
 
 whole_there : (o : Option ℤ) → slot_named o ≡ Whole → o ≡ None
 whole_there None e = refl

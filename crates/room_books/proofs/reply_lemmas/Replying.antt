@@ -30,7 +30,7 @@ use Rattle.room_books.specs.Meeting.{outcome_of}
 use Rattle.room_books.specs.Taking.{claim_said, claims_said}
 use Rattle.room_books.specs.Room.{AreFitting, IsOwn, Meets, answers_in_view}
 use Rattle.room_books.specs.Slots.{Reordered}
-use Rattle.room_books.specs.Reply.{AreShown, CanTell, AllTell, IsEventIn, ShowsGiven, AreTold, WritesAnswers, IsReplyOf}
+use Rattle.room_books.specs.Reply.{AreShown, CanTell, AllTell, IsEventIn, ShowsGiven, AreToldIn, WritesAnswers, IsReplyOf}
 use Rattle.room_books.proofs.shared_lemmas.Givens.{given_from, given_to}
 use Rattle.room_books.proofs.shared_lemmas.Loops.{zip_push, one_more}
 use Rattle.room_books.proofs.room_lemmas.Meetings.{same_place_of}
@@ -88,7 +88,7 @@ can_tell_from xs ys part same can = record {
 shows_from : (room : List ℕ) (xs ys : List PartAnswer) (part : Part) (lines : List (List ℕ)) → Reordered xs ys → ShowsGiven room xs part lines → ShowsGiven room ys part lines
 shows_from room xs ys part lines same s = record { given = s.given; kept = re_in xs ys same s.given s.kept; same = s.same; shows = s.shows }
 
-told_from : (room : List ℕ) (xs ys : List PartAnswer) (are : List (Bor Claim)) (events : List (List (List ℕ))) → Reordered xs ys → AreTold room xs are events → AreTold room ys are events
+told_from : (room : List ℕ) (xs ys : List PartAnswer) (are : List (Bor Claim)) (events : List (List (List ℕ))) → Reordered xs ys → AreToldIn room xs are events → AreToldIn room ys are events
 told_from room xs ys [] [] same z = tt
 told_from room xs ys [] (e ∷ events) same z = absurd z
 told_from room xs ys (c ∷ are) [] same z = absurd z

@@ -23,7 +23,7 @@ use Rattle.room_books.specs.declared.kept.Meeting.{Meeting}
 use Rattle.room_books.specs.declared.meeting.PartAnswer.{PartAnswer}
 use Rattle.room_books.specs.declared.meeting.MeetingKey.{MeetingKey}
 use Rattle.room_books.specs.Slots.{Reordered}
-use Rattle.room_books.specs.Gone.{IsParted}
+use Rattle.room_books.specs.Gone.{IsPartedInto}
 use Rattle.room_books.specs.Taking.{MayJoinAll}
 use Rattle.room_books.specs.Meeting.{all_recurring, all_series, all_singles, beside, instance_list, in_room, is_other, joined, meeting_singles, other_recurring, others, recurring_of, same_key, series_by, series_list, series_of, singles_by, AreFewer, IsClearIn, RecursIn, SeriesMayJoin}
 use Rattle.room_books.proofs.shared_lemmas.Leaving.{kept_within}
@@ -81,7 +81,7 @@ kept_series_join k es own kept distinct singles fewer clear few = record {
 }
 
 -- with the answers that it keeps
-pub kept_all_join : (k : MeetingKey) (es : List (MeetingKey × Meeting)) (kept : List PartAnswer) → IsDistinct same_key (keys_of es) → (gone : List Single) → IsParted (singles_by (lookup (same_key k) es)) gone (all_singles kept)
+pub kept_all_join : (k : MeetingKey) (es : List (MeetingKey × Meeting)) (kept : List PartAnswer) → IsDistinct same_key (keys_of es) → (gone : List Single) → IsPartedInto (singles_by (lookup (same_key k) es)) gone (all_singles kept)
     → AreFewer (series_by (lookup (same_key k) es)) (all_series kept) → IsClearIn (in_room es) → (count : ℕ) → count ≡ length (all_recurring es) → count ≤ 64 → MayJoinAll (beside k es) k kept
 kept_all_join k es kept distinct gone parted fewer clear count counted few =
     kept_series_join k es (all_singles kept) (all_series kept) distinct (kept_within (singles_by (lookup (same_key k) es)) gone (all_singles kept) parted) fewer clear (omega (arith, counted, few))

@@ -14,7 +14,7 @@ use Rattle.profile.specs.events.Starts.{IsInstance}
 use Rattle.profile.specs.events.Confirmed.{Confirmed, IsInSeries, IsOneOf}
 use Rattle.profile.specs.rooms.Rooms.{NamesClash}
 use Rattle.clash_cert.specs.declared.making.Clash.{Clash}
-use Rattle.clash_cert.specs.Makings.{AreNamed}
+use Rattle.clash_cert.specs.Makings.{AreBothNamed}
 use Rattle.cal_events.specs.Calendar.{owned_key_of}
 use Rattle.cal_events.specs.declared.instance.Single.{Single}
 use Rattle.cal_events.specs.declared.series.Series.{Series}
@@ -22,7 +22,7 @@ use Rattle.room_books.specs.declared.decide.SharedInstant.{SharedInstant}
 use Rattle.room_books.specs.declared.meeting.MeetingKey.{MeetingKey}
 use Rattle.room_books.specs.declared.recurring.Recurring.{Recurring}
 use Rattle.room_books.specs.Gone.{HaveInstant, IsLater, Overlap}
-use Rattle.room_books.specs.Recurring.{AreAllOf, AreBeside, AreClearFrom, AreNewClear, IsSharedAlone, keyed_of, recurring_said}
+use Rattle.room_books.specs.Recurring.{AreAllOf, AreBeside, AreClearFrom, AreNewClear, IsSharedByItself, keyed_of, recurring_said}
 use Rattle.room_books.specs.Taking.{AreOfOneMeeting}
 use Rattle.room_books.specs.Meeting.{keyed_instance, instance_list, joined, series_list, series_of, instance_span, AreBusyIn, IsClearIn, Recurs, RecursIn}
 use Rattle.room_books.proofs.decide_lemmas.Deciding.{names_these}
@@ -322,7 +322,7 @@ module _ (others : Confirmed) (k : MeetingKey) (own singles : List Single) (kept
         go (of_other l c) = apart_series x (keyed_instance u.key.now y) (recurring_said u, c, to_series u.key.now u.series.now y is) (sym e)
         go (of_own l key c) = let w = within in let few = one.one in omega (arith, w, few, less, l, long, length-append kept wanted)
 
-    module _ (x : SharedInstant) (clash : Clash) (later : IsLater x.asked.span x.booked.span clash.instant) (named : AreNamed (keyed_instance k x.asked) (keyed_instance x.other.now x.booked) clash.instant clash) where
+    module _ (x : SharedInstant) (clash : Clash) (later : IsLater x.asked.span x.booked.span clash.instant) (named : AreBothNamed (keyed_instance k x.asked) (keyed_instance x.other.now x.booked) clash.instant clash) where
       abbrev Named : Type 0
       Named = NamesClash (IsOneOf now) (owned_key_of clash.first) (owned_key_of clash.second) clash.instant
 
@@ -355,7 +355,7 @@ module _ (others : Confirmed) (k : MeetingKey) (own singles : List Single) (kept
           (λ e. series_differ p q.0 r among.recurring x.asked x.booked at asked.0 at_q less among.is (e ∙ sym (ap (λ (z : Instance). z.key) key))) overlap
 
       -- two of one series
-      alone_named : (p : ℕ) (r : Recurring) → from ≤ p → slice_get all p ≡ Some r → IsSharedAlone r.series.now (Some (x.asked, x.booked)) → x.other.now ≡ r.key.now → Named
+      alone_named : (p : ℕ) (r : Recurring) → from ≤ p → slice_get all p ≡ Some r → IsSharedByItself r.series.now (Some (x.asked, x.booked)) → x.other.now ≡ r.key.now → Named
       alone_named p r from_on at (first_is, second_is, slots, overlap) other =
           let asked = asked_from p r at from_on in
           named_by (subst (λ (q : MeetingKey). IsOneOf now (keyed_instance q x.asked)) asked.0 (in_series p r x.asked at first_is))
@@ -381,7 +381,7 @@ module _ (others : Confirmed) (k : MeetingKey) (own singles : List Single) (kept
       new_named (inr busy) = busy_named busy
       new_named (inl (p, r, from_on, found)) = go found.found
         where
-          go : AreBeside (Recurs r.series.now) (take p all) (Some x) ⊎ (IsSharedAlone r.series.now (Some (x.asked, x.booked)) × (x.other.now ≡ r.key.now)) → Named
+          go : AreBeside (Recurs r.series.now) (take p all) (Some x) ⊎ (IsSharedByItself r.series.now (Some (x.asked, x.booked)) × (x.other.now ≡ r.key.now)) → Named
           go (inl beside) = before_named p r from_on found.at beside
           go (inr (alone, other)) = alone_named p r from_on found.at alone other
 

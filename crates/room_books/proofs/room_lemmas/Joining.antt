@@ -9,7 +9,8 @@ use Rattle.room_books.specs.declared.meeting.MeetingKey.{MeetingKey}
 use Rattle.room_books.specs.declared.meeting.PartAnswer.{PartAnswer}
 use Rattle.room_books.specs.Slots.{Reordered}
 use Rattle.room_books.specs.Meeting.{all_singles, instance_list, keyed_instance, MayJoin}
-use Rattle.room_books.proofs.shared_lemmas.Leaving.{Apart, apart_back, pairs_permuted}
+use Rattle.cal_events.proofs.shared_lemmas.Distinct.{pairs_permuted}
+use Rattle.room_books.proofs.shared_lemmas.Leaving.{Apart, apart_back}
 use Rattle.room_books.proofs.shared_lemmas.Places.{booked_from, in_booked}
 use Rattle.room_books.proofs.shared_lemmas.Reordering.{re_back, re_flat, re_in, re_length, re_permutation}
 use Rattle.room_books.proofs.shared_lemmas.Same.{AreSame, clear_same, same_append, same_itself}

@@ -22,11 +22,11 @@ use Rattle.room_books.specs.declared.meeting.Outcome.{Outcome}
 use Rattle.room_books.specs.declared.meeting.Outcome.TheVariants.{Accepted}
 use Rattle.room_books.specs.declared.meeting.PartAnswer.{PartAnswer}
 use Rattle.room_books.specs.declared.claim.Claim.{Claim as Asking}
-use Rattle.room_books.specs.Taking.{claim_said, claims_said, kind_view, AreAsked, IsAnswered, IsKindOf}
+use Rattle.room_books.specs.Taking.{claim_said, claims_said, kind_view, AreAsked, AreAnswersDecided, IsKindOf}
 use Rattle.room_books.specs.Meeting.{same_key, all_singles, all_series, beside, joined, outcome_of}
 use Rattle.itip_order.specs.declared.part.Slot.{Slot}
 use Rattle.room_books.specs.Slots.{AllTouch, Reordered}
-use Rattle.room_books.specs.Room.{is_of_meeting, book_of, AreFitting, IsFitting, IsFittingSeries, AreGiven, HasAnswer, IsMeetingAfter, KeepsAll, Meets, Represents}
+use Rattle.room_books.specs.Room.{is_of_meeting, book_of, AreFitting, IsFitting, IsFittingSeries, AreGiven, HasAnswer, IsMeetingAfter, KeepsEach, Meets, Represents}
 use Rattle.room_books.proofs.room_lemmas.Afters.{confirmed_asked, recurring_asked, outcome_dated, meets_after}
 use Rattle.room_books.proofs.room_lemmas.Beside.{beside_same}
 use Rattle.room_books.proofs.laws_lemmas.Runs.{new_answer}
@@ -74,7 +74,7 @@ module _ (k : MeetingKey) (entries : List (MeetingKey × Meeting)) (distinct : I
       (f.starts b found.4, subst IsClockSeconds (sym (f.slot b found.4)) (f.starts b found.4))
 
   module _ (part : Part) (own_part : is_of_meeting k part ≡ true) (some : 0 < length asking_all) (meeting : Meeting) (s : RepresentsHistory meeting.held t) (kept : List PartAnswer)
-      (slots : List Slot) (touches : AllTouch slots (parts_of claims)) (keeps : KeepsAll part slots (lookup (same_key k) entries) meeting.held kept) (asking : List (Bor Asking)) (are : AreAsked own.taken t asking_all asking) where
+      (slots : List Slot) (touches : AllTouch slots (parts_of claims)) (keeps : KeepsEach part slots (lookup (same_key k) entries) meeting.held kept) (asking : List (Bor Asking)) (are : AreAsked own.taken t asking_all asking) where
     kept_zip : AreGiven k t (stayed k own (own_of k entries book st) claims fit moment) kept
     kept_zip = keeps own k (parts_of claims) own_part (own_of k entries book st) (st.meets k) s touches
 
@@ -95,7 +95,7 @@ module _ (k : MeetingKey) (entries : List (MeetingKey × Meeting)) (distinct : I
     some_asked [] h = absurd (h refl)
     some_asked (x ∷ xs) h = lt-ltb 0 (length (map (λ (claim : Bor Asking). claim_said claim.now) (x ∷ xs))) (omega arith)
 
-    some_after : (kind : Kind) (outcome : Outcome) → IsAnswered (beside k entries) k meeting.held moment kept asking meeting.answers.items (Some outcome) → IsKindOf own.taken t asking_all (Some outcome) kind
+    some_after : (kind : Kind) (outcome : Outcome) → AreAnswersDecided (beside k entries) k meeting.held moment kept asking meeting.answers.items (Some outcome) → IsKindOf own.taken t asking_all (Some outcome) kind
         → IsMeetingAfter book k claims moment (kind_view kind) meeting
     some_after kind outcome answered_now said =
         let candidates = answered_now.1.0 in
@@ -122,7 +122,7 @@ module _ (k : MeetingKey) (entries : List (MeetingKey × Meeting)) (distinct : I
           kind_is = said (lt-ltb 0 (length asking_all) some) (ap (λ l. nat_lt 0 (length l)) (sym are) ∙ some_asked asking answered_now.0) ∙ kind_own k book claims fit (outcome_of outcome);
         }
 
-    pub meeting_after : (kind : Kind) (outcome : Option Outcome) → IsAnswered (beside k entries) k meeting.held moment kept asking meeting.answers.items outcome → IsKindOf own.taken t asking_all outcome kind
+    pub meeting_after : (kind : Kind) (outcome : Option Outcome) → AreAnswersDecided (beside k entries) k meeting.held moment kept asking meeting.answers.items outcome → IsKindOf own.taken t asking_all outcome kind
         → IsMeetingAfter book k claims moment (kind_view kind) meeting
     meeting_after kind None a said = none_after kind a.0 a.1 said
     meeting_after kind (Some outcome) a said = some_after kind outcome a said

@@ -12,7 +12,7 @@ use Rattle.room_books.specs.declared.meeting.MeetingKey.{MeetingKey}
 use Rattle.room_books.specs.declared.kept.Meeting.{Meeting}
 use Rattle.room_books.specs.Meeting.{same_key}
 use Rattle.room_books.specs.declared.kept.Changes.{Changes}
-use Rattle.room_books.specs.Taking.{answers_by, answers_then, held_after, IsMade}
+use Rattle.room_books.specs.Taking.{answers_by, answers_then, held_after, IsMadeOf}
 use Rattle.room_books.specs.Room.{IsPutIn, IsRenewed}
 use Rattle.std.specs.Cmp.{both_ways as same_tests}
 use Rattle.room_books.proofs.shared_lemmas.Keys.{key_congr}
@@ -69,17 +69,17 @@ renewed_put k more changes place old new e r =
       at,
       record {
         meeting = r.meeting;
-        made = subst (λ (o : Option Meeting). IsMade (held_after o more) (answers_then (answers_by o) changes) r.meeting) (sym (found k old ∙ ap (slice_get (values_of old)) is.1 ∙ r.was)) r.made;
+        made = subst (λ (o : Option Meeting). IsMadeOf (held_after o more) (answers_then (answers_by o) changes) r.meeting) (sym (found k old ∙ ap (slice_get (values_of old)) is.1 ∙ r.was)) r.made;
         entries = r.entries ∙ ap (λ n. set_value_at old n r.meeting) at ∙ set_put k r.meeting old (omega (arith, is.0, length-map old (λ x. x.0)));
       },
     )
 
 -- where it isn't
-pub new_put : (k : MeetingKey) (more : List Part) (changes : Changes) (old new : Entries) (m : Meeting) → position (same_key k) (keys_of old) ≡ None → IsMade more (answers_then [] changes) m → new ≡ insert_entry same_key old k m
+pub new_put : (k : MeetingKey) (more : List Part) (changes : Changes) (old new : Entries) (m : Meeting) → position (same_key k) (keys_of old) ≡ None → IsMadeOf more (answers_then [] changes) m → new ≡ insert_entry same_key old k m
     → IsPutIn k more changes old new
 new_put k more changes old new m e made put = record {
   meeting = m;
-  made = subst (λ (o : Option Meeting). IsMade (held_after o more) (answers_then (answers_by o) changes) m) (sym (found k old ∙ missing (place_of k old) (length (keys_of old)) (values_of old) (length-map old (λ x. x.0) ∙ sym (length-map old (λ x. x.1))) e)) made;
+  made = subst (λ (o : Option Meeting). IsMadeOf (held_after o more) (answers_then (answers_by o) changes) m) (sym (found k old ∙ missing (place_of k old) (length (keys_of old)) (values_of old) (length-map old (λ x. x.0) ∙ sym (length-map old (λ x. x.1))) e)) made;
   entries = put;
 }
   where

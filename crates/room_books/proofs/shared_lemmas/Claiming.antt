@@ -53,7 +53,7 @@ use Rattle.room_books.specs.declared.claims.Asked.{Asked}
 use Rattle.room_books.specs.Claim.{is_of_whole}
 use Rattle.room_books.specs.Claims.{AreClaimed, AreClaimsOf, IsAskingIn}
 use Rattle.room_books.specs.Taking.{body_content, part_instance, claim_said, claims_said}
-use Rattle.room_books.specs.Room.{Pairwise, IsFitting, IsFittingSeries, IsText, IsOfSlot, SlotDated}
+use Rattle.room_books.specs.Room.{Pairwise, IsFitting, IsFittingSeries, IsBodyText, IsOfSlot, SlotDated}
 use Rattle.itip_messages.proofs.shared_lemmas.BodyContents.{body_of}
 use Rattle.room_books.proofs.laws_lemmas.PlacedTwice.{slot_one}
 use Rattle.room_books.proofs.shared_lemmas.Loops.{zip_push}
@@ -208,10 +208,10 @@ module _ (room words : List ℕ) (zone : Option Zone) (means : IsRoomZone words 
   content_is false true body e = ap body_content e ∙ (body_of content event says.canonical.when).read
   content_is false false body e = ap body_content e
 
-  texts : (b n : Bool) (body : Body) → body ≡ cond b Cancelled (cond n (Set (canonical content)) Absent) → IsText body
-  texts true n body e = subst IsText (sym e) tt
-  texts false true body e = subst IsText (sym e) (body_of content event says.canonical.when).utf8
-  texts false false body e = subst IsText (sym e) tt
+  texts : (b n : Bool) (body : Body) → body ≡ cond b Cancelled (cond n (Set (canonical content)) Absent) → IsBodyText body
+  texts true n body e = subst IsBodyText (sym e) tt
+  texts false true body e = subst IsBodyText (sym e) (body_of content event says.canonical.when).utf8
+  texts false false body e = subst IsBodyText (sym e) tt
 
   body_there : part.body ≡ cond off Cancelled (cond named (Set (canonical content)) Absent)
   body_there = ap (λ (p : Part). p.body) x.part.2 ∙ body_is room message given s event component says x.part.0

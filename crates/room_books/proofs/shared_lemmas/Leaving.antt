@@ -1,11 +1,11 @@
 -- What is gone is found by binary search, and is no longer in the way: what the timeline has beside it stays confirmed.
 -- Cited by busy_beside of decide, busy_beside_series of decide, decide of decide, is_among of gone, sort of gone, Room::answers_after of room and 4 more.
-use Rattle.std.proofs.Common.{◌≡◌, ◌≢◌, ◌∙◌, ℕ, ◌+◌, ◌<◌, ◌≤◌, ℤ, ◌≤ℤ◌, Bool, true, false, ◌&&◌, List, ◌++◌, length, get_or, inl, inr, Option, None, Some, Result, Ok, Err, refl, sym, ap, subst, arith, length-append}
+use Rattle.std.proofs.Common.{◌≡◌, ◌∙◌, ℕ, ◌+◌, ◌≤◌, ℤ, ◌≤ℤ◌, Bool, true, false, ◌&&◌, List, ◌++◌, length, get_or, inl, inr, Option, None, Some, Result, Ok, Err, refl, sym, ap, subst, arith, length-append}
 use Rattle.std.specs.Prelude.{slice_get, ◌==◌}
 use Rattle.std.specs.declared.cmp.Ordering.TheVariants.{Equal}
 use Rattle.std.specs.Cmp.{IsTotalOrder}
 use Rattle.std.specs.FinMap.{int_cmp-IsAntisymmetric}
-use Rattle.std.specs.List.{Contains, AllPairs, IsDistinct, position}
+use Rattle.std.specs.List.{Contains, IsDistinct, position}
 use Rattle.std.specs.List.Sorted.{IsPermutation, IsSearchInRange, IsBinarySearchResult, IsSortedByKey}
 use Rattle.std.specs.Map.{lookup, keys_of}
 use Rattle.std.specs.Ordering.{is_eq}
@@ -17,14 +17,14 @@ use Rattle.std.proofs.lemmas.List.Elements.{Contains-append_left, Contains-appen
 use Rattle.std.proofs.lemmas.List.Folds.{list_any_at, list_any_none}
 use Rattle.std.proofs.lemmas.List.Sorted.{searchable_from_sorted, Contains-permutation, IsPermutation-sym, IsPermutation-trans, IsPermutation-append_left, length_permutation}
 use Rattle.itip_order.proofs.Order.{then_equal}
-use Rattle.cal_events.proofs.shared_lemmas.Distinct.{Distinct, distinct_permutation}
+use Rattle.cal_events.proofs.shared_lemmas.Distinct.{pairs_permuted}
 use Rattle.profile.specs.checker.Instances.{Instance}
 use Rattle.cal_events.specs.declared.instance.Single.{Single}
 use Rattle.cal_events.specs.declared.sweep.Span.{Span}
 use Rattle.room_books.specs.declared.meeting.MeetingKey.{MeetingKey}
 use Rattle.room_books.specs.declared.kept.Meeting.{Meeting}
 use Rattle.room_books.specs.declared.timeline.Busy.{Busy}
-use Rattle.room_books.specs.Gone.{HaveInstant, AreSeparate, IsParted, IsPartOf, single_cmp, the_single}
+use Rattle.room_books.specs.Gone.{HaveInstant, AreSeparate, IsPartedInto, IsPartOf, single_cmp, the_single}
 use Rattle.room_books.specs.Timeline.{HoldsInstants, busy_in, has_single, is_own_place, is_leaving, same_single, IsSharedIn, IsTimelineOf}
 use Rattle.room_books.specs.Meeting.{same_key, keyed_instance, instance_list, confirmed_at, meeting_singles, singles_by, singles_in, instance_span, others, AreAllApart, IsSpanFree}
 use Rattle.room_books.proofs.shared_lemmas.Pairs.{pairs_from}
@@ -68,19 +68,7 @@ found_single xs single (Err i) up in_range parted =
       | inr from ↦ same_tie single (get_or xs k d) (ap is_eq (parts.1 k d from lt))
     ]))
 
--- ---- pairs in another order
-
-pub pairs_permuted : {X : Type 0} (R : X → X → Type 0) → ((a b : X) → R a b → R b a) → (xs ys : List X) → IsPermutation xs ys → AllPairs R xs → AllPairs R ys
-pairs_permuted {X} R back xs ys same p =
-    let distinct : Distinct R xs = λ i j d hi hj ne. elim (cases_lt i j) [
-      | inl less ↦ p i j d less hj
-      | inr from ↦ back (get_or xs j d) (get_or xs i d) (p j i d (below i j from ne) hi)
-    ] in
-    let turned = distinct_permutation R xs ys same distinct in
-    λ i j d less within. turned i j d (omega (arith, less, within)) within (λ e. omega (arith, less, e))
-  where
-    below : (i j : ℕ) → j ≤ i → i ≢ j → j < i
-    below i j h n = grind arith
+-- ---- singles in another order
 
 abbrev pub Apart : Single → Single → Type 0
 Apart a b = (t : ℤ) → HaveInstant a.span b.span t → ⊥
@@ -88,19 +76,19 @@ Apart a b = (t : ℤ) → HaveInstant a.span b.span t → ⊥
 pub apart_back : (a b : Single) → Apart a b → Apart b a
 apart_back a b h t have = h t (record { in_first = have.in_second; in_second = have.in_first; before = have.before })
 
-pub parted_separate : (all gone kept : List Single) → IsParted all gone kept → AreSeparate all → AreSeparate (gone ++ kept)
+pub parted_separate : (all gone kept : List Single) → IsPartedInto all gone kept → AreSeparate all → AreSeparate (gone ++ kept)
 parted_separate all gone kept same h = pairs_permuted Apart apart_back all (gone ++ kept) same h
 
-pub kept_separate : (all gone kept : List Single) → IsParted all gone kept → AreSeparate all → AreSeparate kept
+pub kept_separate : (all gone kept : List Single) → IsPartedInto all gone kept → AreSeparate all → AreSeparate kept
 kept_separate all gone kept same h = pairs_from Apart kept (pairs_right Apart gone kept (pairs_to Apart (gone ++ kept) (parted_separate all gone kept same h)))
 
-pub parted_length : (all gone kept : List Single) → IsParted all gone kept → length all ≡ length gone + length kept
+pub parted_length : (all gone kept : List Single) → IsPartedInto all gone kept → length all ≡ length gone + length kept
 parted_length all gone kept same = let n = length_permutation all (gone ++ kept) same in omega (arith, n, length-append gone kept)
 
-pub kept_within : (all gone kept : List Single) → IsParted all gone kept → (s : Single) → Contains kept s → Contains all s
+pub kept_within : (all gone kept : List Single) → IsPartedInto all gone kept → (s : Single) → Contains kept s → Contains all s
 kept_within all gone kept same s c = Contains-permutation (gone ++ kept) all s (IsPermutation-sym all (gone ++ kept) same) (Contains-append_right gone kept s c)
 
-pub parted_part : (all gone kept : List Single) → IsParted all gone kept → IsPartOf kept all
+pub parted_part : (all gone kept : List Single) → IsPartedInto all gone kept → IsPartOf kept all
 parted_part all gone kept same = record {
   within = kept_within all gone kept same;
   shorter = (let n = parted_length all gone kept same in omega (arith, n));
@@ -108,7 +96,7 @@ parted_part all gone kept same = record {
 }
 
 -- the same in the order of those that are gone
-pub parted_sorted : (all gone sorted kept : List Single) → IsPermutation gone sorted → IsParted all gone kept → IsParted all sorted kept
+pub parted_sorted : (all gone sorted kept : List Single) → IsPermutation gone sorted → IsPartedInto all gone kept → IsPartedInto all sorted kept
 parted_sorted all gone sorted kept p same = IsPermutation-trans all (gone ++ kept) (sorted ++ kept) same (IsPermutation-append_left kept gone sorted p)
 
 -- ---- by the timeline
@@ -119,7 +107,7 @@ and_false false = refl
 
 module _ (k : MeetingKey) (es : List (MeetingKey × Meeting)) (distinct : IsDistinct same_key (keys_of es)) (own : Option ℕ) (own_is : own ≡ position (same_key k) (keys_of es))
     (items : List Busy) (timeline : IsTimelineOf (confirmed_at es) items) (apart : AreAllApart es)
-    (gone kept : List Single) (parted : IsParted (singles_by (lookup (same_key k) es)) gone kept) where
+    (gone kept : List Single) (parted : IsPartedInto (singles_by (lookup (same_key k) es)) gone kept) where
   abbrev before : List Single
   before = singles_by (lookup (same_key k) es)
 

@@ -19,7 +19,7 @@ use Rattle.cal_events.specs.declared.series.Series.{Series}
 use Rattle.cal_events.specs.declared.sweep.Span.{Span}
 use Rattle.room_books.specs.declared.recurring.Recurring.{Recurring}
 use Rattle.room_books.specs.Gone.{HaveInstant, Overlap}
-use Rattle.room_books.specs.Recurring.{AreBeside, IsSharedAlone}
+use Rattle.room_books.specs.Recurring.{AreBeside, IsSharedByItself}
 use Rattle.room_books.specs.Meeting.{instance_span, Recurs}
 use Rattle.room_books.proofs.shared_lemmas.Loops.{one_more}
 
@@ -88,14 +88,14 @@ none_of_pair a b clear x y t r q h =
     clear r.booked q.booked r.is q.is (shares_of (instance_span r.booked) (instance_span q.booked) t
     (subst (λ (z : Span). HaveInstant z (instance_span q.booked) t) r.span (subst (λ (z : Span). HaveInstant x.span z t) q.span h)))
 
-pub none_alone : (s : Series) → IsSeriesClear (series_said s) → IsSharedAlone s None
+pub none_alone : (s : Series) → IsSeriesClear (series_said s) → IsSharedByItself s None
 none_alone s clear a b t r q differ h =
     clear r.booked q.booked r.is q.is (λ e. differ (r.slot ∙ ap (λ (k : Key). k.slot) e ∙ sym q.slot))
     (shares_of (instance_span r.booked) (instance_span q.booked) t
     (subst (λ (z : Span). HaveInstant z (instance_span q.booked) t) r.span (subst (λ (z : Span). HaveInstant a.span z t) q.span h)))
 
 pub two_alone : (s : Series) → AreKnownByStart (series_said s) → (a b : SaidInstance) (x y : Single) → AreTwo (series_said s) a b → x.slot ≡ a.key.slot → x.span.start ≡ a.start → x.span.end ≡ a.end
-    → y.slot ≡ b.key.slot → y.span.start ≡ b.start → y.span.end ≡ b.end → IsSharedAlone s (Some (x, y))
+    → y.slot ≡ b.key.slot → y.span.start ≡ b.start → y.span.end ≡ b.end → IsSharedByItself s (Some (x, y))
 two_alone s known a b x y two xslot xstart xend yslot ystart yend = (
   recurs_as s a x two.first xslot xstart xend,
   recurs_as s b y two.second yslot ystart yend,
@@ -140,16 +140,16 @@ AreFreeOf those r = (single : Single) → those single → IsFreeOf single r
 -- each series from a place on, up to another, is clear of those before it, and by itself
 abbrev pub AreClearTo : List Recurring → ℕ → ℕ → Type 0
 AreClearTo all from to = (place : ℕ) (r : Recurring) → from ≤ place → place < to → slice_get all place ≡ Some r
-    → AreBeside (Recurs r.series.now) (take place all) None × IsSharedAlone r.series.now None
+    → AreBeside (Recurs r.series.now) (take place all) None × IsSharedByItself r.series.now None
 
 -- one more
-pub clear_to_more : (all : List Recurring) (from k : ℕ) (d : Recurring) → k < length all → AreBeside (Recurs (get_or all k d).series.now) (take k all) None → IsSharedAlone (get_or all k d).series.now None
+pub clear_to_more : (all : List Recurring) (from k : ℕ) (d : Recurring) → k < length all → AreBeside (Recurs (get_or all k d).series.now) (take k all) None → IsSharedByItself (get_or all k d).series.now None
     → AreClearTo all from k → AreClearTo all from (k + 1)
 clear_to_more all from k d within beside alone before place r first last at = elim (at_end place last) [
   | inl e ↦
       let same : get_or all k d ≡ r = ap (λ n. get_or all n d) (sym e) ∙ get_or_from_slice_get all place r d at in (
         subst (λ (n : ℕ). AreBeside (Recurs r.series.now) (take n all) None) (sym e) (subst (λ (z : Recurring). AreBeside (Recurs z.series.now) (take k all) None) same beside),
-        subst (λ (z : Recurring). IsSharedAlone z.series.now None) same alone,
+        subst (λ (z : Recurring). IsSharedByItself z.series.now None) same alone,
       )
   | inr less ↦ before place r first less at
 ]

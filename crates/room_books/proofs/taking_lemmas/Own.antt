@@ -28,7 +28,7 @@ use Rattle.itip_order.specs.declared.part.Slot.{Slot}
 use Rattle.std.specs.Ordering.{is_eq}
 use Rattle.room_books.specs.Meeting.{keyed_instance, instance_list, series_list}
 use Rattle.std.specs.Option.{option_to_list}
-use Rattle.room_books.specs.Room.{is_of_meeting, AreSameSeries, IsOwn, HasAnswer, answers_in_view, KeepsAll, KeepsSome}
+use Rattle.room_books.specs.Room.{is_of_meeting, AreSameSeries, IsOwn, HasAnswer, answers_in_view, KeepsEach, KeepsSome}
 use Rattle.room_books.proofs.shared_lemmas.Loops.{zip_both, zip_push, filter_push, filter_yes, filter_no}
 use Rattle.room_books.proofs.room_lemmas.Meetings.{filter_same, is_of_parts, of_part, same_place_of}
 use Rattle.room_books.proofs.shared_lemmas.Pairs.{flat_at}
@@ -358,7 +358,7 @@ zip_apart R (x ∷ xs) (y ∷ ys) zs z = let r = zip_apart R xs ys zs z.1 in (x 
 pub keeps_all : (part : Part) (slots : List Slot) (meeting : Meeting) (after : List Part) (lost : List Slot) (left : List PartAnswer)
     → KeepsSome part slots meeting.held after (taken_at lost meeting.answers.items) left
     → ((given : PartAnswer) → Contains meeting.answers.items given → is_touched lost (slot_of given.slot) ≡ false → IsLeftAlone slots meeting.held after part given)
-    → KeepsAll part slots (Some meeting) after (left_without lost meeting.answers.items ++ left)
+    → KeepsEach part slots (Some meeting) after (left_without lost meeting.answers.items ++ left)
 keeps_all part slots meeting after lost left k alone own key more e o m s t =
     let answers = meeting.answers.items in
     let test : PartAnswer → Bool = λ given. is_touched lost (slot_of given.slot) in
@@ -384,7 +384,7 @@ keeps_all part slots meeting after lost left k alone own key more e o m s t =
     }
 
 -- of a meeting of which nothing was ever taken there are none
-pub keeps_new : (part : Part) (slots : List Slot) (after : List Part) (kept : List PartAnswer) → kept ≡ [] → KeepsAll part slots None after kept
+pub keeps_new : (part : Part) (slots : List Slot) (after : List Part) (kept : List PartAnswer) → kept ≡ [] → KeepsEach part slots None after kept
 keeps_new part slots after kept none own key more e o m s t =
     given_zip key (own.taken ++ more) (answers_in_view (own.taken ++ more) (answers_in_view own.taken own.answers)) kept
     (subst (AllZip (HasAnswer key (own.taken ++ more)) (answers_in_view (own.taken ++ more) (answers_in_view own.taken own.answers))) (sym none)

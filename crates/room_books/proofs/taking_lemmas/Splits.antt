@@ -4,7 +4,7 @@ use Rattle.std.proofs.Common.{◌≡◌, ◌∙◌, ℕ, ◌+◌, ◌<◌, List,
 use Rattle.std.proofs.lemmas.List.{take_more}
 use Rattle.cal_events.specs.declared.instance.Single.{Single}
 use Rattle.room_books.specs.declared.meeting.PartAnswer.{PartAnswer}
-use Rattle.room_books.specs.Gone.{IsParted, IsSplit, Sheds}
+use Rattle.room_books.specs.Gone.{IsPartedInto, IsSplitInto, Sheds}
 use Rattle.std.proofs.lemmas.List.Sorted.{IsPermutation-append_comm, IsPermutation-append_left, IsPermutation-append_right, IsPermutation-cons, IsPermutation-middle, IsPermutation-refl, IsPermutation-sym, IsPermutation-trans}
 use Rattle.std.specs.List.Sorted.{IsPermutation}
 use Rattle.std.proofs.lemmas.Grind.{flat_map-append}
@@ -16,17 +16,17 @@ use Rattle.itip_messages.proofs.shared_lemmas.WrittenLines.{flat_push}
 
 -- ---- put together
 
-pub split_both : (a g k b h l : List Single) → IsSplit a g k → IsSplit b h l → IsSplit (a ++ b) (g ++ h) (k ++ l)
+pub split_both : (a g k b h l : List Single) → IsSplitInto a g k → IsSplitInto b h l → IsSplitInto (a ++ b) (g ++ h) (k ++ l)
 split_both _ _ _ b h l none t = t
 split_both _ _ _ b h l (goes s a g k r) t = goes s (a ++ b) (g ++ h) (k ++ l) (split_both a g k b h l r t)
 split_both _ _ _ b h l (stays s a g k r) t = stays s (a ++ b) (g ++ h) (k ++ l) (split_both a g k b h l r t)
 
 -- all are kept, or all go
-pub split_kept : (xs : List Single) → IsSplit xs [] xs
+pub split_kept : (xs : List Single) → IsSplitInto xs [] xs
 split_kept [] = none
 split_kept (x ∷ xs) = stays x xs [] xs (split_kept xs)
 
-pub split_gone : (xs : List Single) → IsSplit xs xs []
+pub split_gone : (xs : List Single) → IsSplitInto xs xs []
 split_gone [] = none
 split_gone (x ∷ xs) = goes x xs xs [] (split_gone xs)
 
@@ -41,7 +41,7 @@ sheds_stay xs left new old gone i d h e s =
     subst (λ (l : List Single). Sheds l new old gone) (sym (take_more xs i d h)) (record {
       gone = s.gone;
       is = s.is;
-      split = subst (IsSplit (take i xs ++ x ∷ []) s.gone) (sym e) (subst (λ (g : List Single). IsSplit (take i xs ++ x ∷ []) g (left ++ x ∷ [])) (append-nil s.gone)
+      split = subst (IsSplitInto (take i xs ++ x ∷ []) s.gone) (sym e) (subst (λ (g : List Single). IsSplitInto (take i xs ++ x ∷ []) g (left ++ x ∷ [])) (append-nil s.gone)
           (split_both (take i xs) s.gone left (x ∷ []) [] (x ∷ []) s.split (split_kept (x ∷ []))));
     })
 
@@ -51,33 +51,33 @@ sheds_go xs left old gone gone' i d h e s =
     subst (λ (l : List Single). Sheds l left old gone') (sym (take_more xs i d h)) (record {
       gone = s.gone ++ x ∷ [];
       is = e ∙ ap (λ l. l ++ x ∷ []) s.is ∙ append_assoc old s.gone (x ∷ []);
-      split = subst (IsSplit (take i xs ++ x ∷ []) (s.gone ++ x ∷ [])) (append-nil left)
+      split = subst (IsSplitInto (take i xs ++ x ∷ []) (s.gone ++ x ∷ [])) (append-nil left)
           (split_both (take i xs) s.gone left (x ∷ []) (x ∷ []) [] s.split (split_gone (x ∷ [])));
     })
 
 -- in any order
-pub split_parted : (all gone kept : List Single) → IsSplit all gone kept → IsParted all gone kept
+pub split_parted : (all gone kept : List Single) → IsSplitInto all gone kept → IsPartedInto all gone kept
 split_parted _ _ _ none = IsPermutation-refl []
 split_parted _ _ _ (goes s a g k r) = IsPermutation-cons s a (g ++ k) (split_parted a g k r)
 split_parted _ _ _ (stays s a g k r) =
     IsPermutation-trans (s ∷ a) (s ∷ (g ++ k)) (g ++ s ∷ k) (IsPermutation-cons s a (g ++ k) (split_parted a g k r)) (IsPermutation-sym (g ++ s ∷ k) (s ∷ (g ++ k)) (IsPermutation-middle g s k))
 
 -- of nothing nothing goes
-pub split_none : (all gone : List Single) (kept : List PartAnswer) → all ≡ [] → gone ≡ [] → kept ≡ [] → IsSplit all gone (all_singles kept)
-split_none all gone kept a g k = subst (λ (l : List Single). IsSplit l gone (all_singles kept)) (sym a) (subst (λ (l : List Single). IsSplit [] l (all_singles kept)) (sym g) (subst (λ (l : List PartAnswer). IsSplit [] [] (all_singles l)) (sym k) none))
+pub split_none : (all gone : List Single) (kept : List PartAnswer) → all ≡ [] → gone ≡ [] → kept ≡ [] → IsSplitInto all gone (all_singles kept)
+split_none all gone kept a g k = subst (λ (l : List Single). IsSplitInto l gone (all_singles kept)) (sym a) (subst (λ (l : List Single). IsSplitInto [] l (all_singles kept)) (sym g) (subst (λ (l : List PartAnswer). IsSplitInto [] [] (all_singles l)) (sym k) none))
 
 -- one more answer
 pub one_shed : (done : List PartAnswer) (given : PartAnswer) (left kept kept' gone gone' : List Single) → Sheds given.singles.items left gone gone' → kept' ≡ kept ++ left
-    → IsSplit (all_singles done) gone kept → IsSplit (all_singles (done ++ given ∷ [])) gone' kept'
+    → IsSplitInto (all_singles done) gone kept → IsSplitInto (all_singles (done ++ given ∷ [])) gone' kept'
 one_shed done given left kept kept' gone gone' s e split =
     let f : PartAnswer → List Single = λ x. x.singles.items in
-    subst (λ (l : List Single). IsSplit l gone' kept') (sym (flat_push f done given))
-    (subst (λ (l : List Single). IsSplit (all_singles done ++ given.singles.items) l kept') (sym s.is)
-    (subst (IsSplit (all_singles done ++ given.singles.items) (gone ++ s.gone)) (sym e)
+    subst (λ (l : List Single). IsSplitInto l gone' kept') (sym (flat_push f done given))
+    (subst (λ (l : List Single). IsSplitInto (all_singles done ++ given.singles.items) l kept') (sym s.is)
+    (subst (IsSplitInto (all_singles done ++ given.singles.items) (gone ++ s.gone)) (sym e)
     (split_both (all_singles done) gone kept given.singles.items s.gone left split s.split)))
 
 -- what goes and what is left of some answers, beside others that stay
-pub whole_parted : (answers out others left : List PartAnswer) (gone : List Single) → Reordered answers (out ++ others) → IsSplit (all_singles out) gone (all_singles left) → IsParted (all_singles answers) gone (all_singles (others ++ left))
+pub whole_parted : (answers out others left : List PartAnswer) (gone : List Single) → Reordered answers (out ++ others) → IsSplitInto (all_singles out) gone (all_singles left) → IsPartedInto (all_singles answers) gone (all_singles (others ++ left))
 whole_parted answers out others left gone same split =
     let f : PartAnswer → List Single = λ x. x.singles.items in
     let a = all_singles answers in let o = all_singles out in let t = all_singles others in let l = all_singles left in

@@ -22,7 +22,7 @@ use Rattle.profile.specs.rooms.Rooms.{Claim, PartAnswer, Book, is_accept, is_con
 use Rattle.room_books.specs.declared.meeting.MeetingKey.{MeetingKey}
 use Rattle.room_books.specs.declared.kept.Meeting.{Meeting}
 use Rattle.room_books.specs.Meeting.{same_key}
-use Rattle.room_books.specs.Room.{Pairwise, IsText, SlotDated, is_of_meeting, of_meeting, answers_of, book_of, answers_in_view, Meets, AreKeysOf, Represents}
+use Rattle.room_books.specs.Room.{Pairwise, IsBodyText, SlotDated, is_of_meeting, of_meeting, answers_of, book_of, answers_in_view, Meets, AreKeysOf, Represents}
 use Rattle.room_books.specs.Taking.{body_content}
 use Rattle.room_books.specs.Texts.{IsEntryEvent, accepted_slots, has_slot, kept_entry_of, has_accepted_part, is_hiding, kept_in, all_kept, zone_of_entry}
 use Rattle.room_books.proofs.shared_lemmas.Arrivals.{key_meeting}
@@ -317,7 +317,7 @@ unfolding IsOfEntry
 event_of room zones entries book st entry true part lines dated (h, is) event =
     let fit = st.fit h.0 h.1 in
     subst (λ (x : KeptComponent). IsKeptEvent room zones x lines) (sym is)
-    (event h.0.claim h.3 (fit.content ∙ ap (λ (q : Part). body_content q.body) h.3) (sym (ap is_set h.3) ∙ st.set h.0 h.1) (subst (λ (q : Part). IsText q.body) h.3 fit.text) dated)
+    (event h.0.claim h.3 (fit.content ∙ ap (λ (q : Part). body_content q.body) h.3) (sym (ap is_set h.3) ∙ st.set h.0 h.1) (subst (λ (q : Part). IsBodyText q.body) h.3 fit.text) dated)
 event_of room zones entries book st entry false part lines dated is event = subst (λ (x : KeptComponent). IsKeptEvent room zones x lines) (sym is) (event dated)
 
 -- an entry's zone is that of its part

@@ -10,7 +10,7 @@ use Rattle.profile.specs.rooms.Kept.{IsEventOf, IsNamed}
 use Rattle.profile.specs.rooms.Revisions.{Part, At, Body, Set, Absent, Cancelled}
 use Rattle.profile.specs.rooms.Rooms.{is_set, is_set_body}
 use Rattle.profile.specs.text.Values.{escaped}
-use Rattle.room_books.specs.Room.{IsText, SlotDated}
+use Rattle.room_books.specs.Room.{IsBodyText, SlotDated}
 use Rattle.room_books.specs.Taking.{body_content}
 use Rattle.itip_messages.specs.BodyText.{WritesBody, WritesSlot, content_in, named_lines}
 use Rattle.itip_messages.specs.Zones.{with_zones}
@@ -89,7 +89,7 @@ module _ (room : List ℕ) (part : Part) (o0 o1 o2 o3 o4 o5 : List ℕ) (w : Wri
       (λ claim e f is utf8 dated.
       let content : content_in octets ≡ claim.content = sym (ap body_content set) ∙ sym f in
       let zone : IsNamed zones_new claim.content.zone b.name = subst (λ (c : Content). IsNamed zones_new c.zone b.name) content b.named in
-      let lines : b.lines ≡ named_lines b.name claim.content.lines = b.text (subst IsText set utf8) ∙ ap (λ (c : Content). named_lines b.name c.lines) content in
+      let lines : b.lines ≡ named_lines b.name claim.content.lines = b.text (subst IsBodyText set utf8) ∙ ap (λ (c : Content). named_lines b.name c.lines) content in
       let event : IsEventOf room part (named_lines b.name claim.content.lines) (codes "ACCEPTED") own =
       subst (λ (c : List (List ℕ)). IsEventOf room part c (codes "ACCEPTED") own) lines (event_is room part (codes "ACCEPTED") o0 o1 w b.lines dated) in
       (b.name, zone, subst (λ (p : Part). IsEventOf room p (named_lines b.name claim.content.lines) (codes "ACCEPTED") own) (sym e) event))

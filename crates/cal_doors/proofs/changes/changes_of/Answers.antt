@@ -1,6 +1,6 @@
 use Rattle.std.proofs.Common.{◌∙◌, sym, subst, ℕ, List}
 use Rattle.ical_tree.specs.Tree.{tree_of}
-use Rattle.cal_doors.specs.Adapted.{listed_of, IsUseFor, IsReadable, IsNeeded}
+use Rattle.cal_doors.specs.Adapted.{listed_of, IsUseFor, IsZoneReadable, IsNeeded}
 use Rattle.cal_doors.specs.declared.changes.Need.TheVariants.{Change}
 use Rattle.cal_doors.proofs.ChangesMade.{first_made, held_use, step_read, step_changed, end_made}
 use Rattle.cal_doors.proofs.changes.changes_of.Goals as goal
@@ -22,7 +22,7 @@ loop-name-preserved-in-Nothing c =
     let object = tree_of c.args.zones.now.object.now in
     let readable = subst (IsNeeded listed object c.as_str.result.now) c.in-Nothing.is c.in_ok-need_of.ensures in
     step_read listed object c.args.uses.now.entries c.loop-name.name-iterator c.in-Some.name.now c.in-Some.times.now c.next.new.self c.loop-name.changes.entries c.in-Some.ensures.steps
-    (subst (IsReadable object) c.as_str.ensures.value readable) c.loop-name.invariant
+    (subst (IsZoneReadable object) c.as_str.ensures.value readable) c.loop-name.invariant
 
 pub loop-name-preserved : goal.loop-name-preserved
 loop-name-preserved c =

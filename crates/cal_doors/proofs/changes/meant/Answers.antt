@@ -6,7 +6,7 @@ use Rattle.profile.specs.text.Trees.{Tree}
 use Rattle.profile.specs.series.GeneralZoneTexts.{SaysGeneralZone}
 use Rattle.profile.specs.events.ZonedTimes.{zone_named}
 use Rattle.profile.specs.doors.Adapting.{SaysNothing}
-use Rattle.cal_doors.specs.Adapted.{AreListed, listed_of, IsMeantZone}
+use Rattle.cal_doors.specs.Adapted.{IsListOfZones, listed_of, IsMeantZone}
 use Rattle.cal_doors.specs.Found.{general_of}
 use Rattle.cal_doors.proofs.ChangesNamed.{tree_at, own_meant, listed_meant}
 use Rattle.cal_doors.proofs.RightGiven.{when_found}
@@ -21,7 +21,7 @@ returns-then-has_part c =
     c.general_zone.ensures
 
 pub named-requires : goal.named-requires
-named-requires c = subst AreListed c.in-Some-listed.is c.requires
+named-requires c = subst IsListOfZones c.in-Some-listed.is c.requires
 
 pub returns : goal.returns
 returns c =

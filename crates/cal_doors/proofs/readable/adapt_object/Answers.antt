@@ -5,7 +5,7 @@ use Rattle.ical_tree.specs.Tree.{tree_of}
 use Rattle.ical_tree.specs.declared.component.Component.{Component}
 use Rattle.profile.specs.doors.Adapting.{IsAdapted}
 use Rattle.cal_doors.specs.Used.{AreUses}
-use Rattle.cal_doors.specs.Adapted.{list_of, AreChanges, IsRight, AreGoingOn}
+use Rattle.cal_doors.specs.Adapted.{list_of, AreChanges, IsRightlyAdapted, AreGoingOn}
 use Rattle.cal_doors.proofs.AdaptWhole.{is_adapted}
 use Rattle.cal_doors.proofs.RightGiven.{of_some, when_both}
 use Rattle.cal_doors.proofs.readable.adapt_object.Goals as goal
@@ -31,7 +31,7 @@ returns c =
     let listed = list_of c.args.listed in
     let changed = of_some _ changes (λ m. AreChanges listed (tree_of c.in_ok-zones.zones.object.now) uses m.entries) c.in-Some.is c.in_ok-changes.ensures in
     let are_changes = subst (λ (o : Component). AreChanges listed (tree_of o) uses changes.entries) c.in_ok-zones.ensures.object changed in
-    when_both c.with_changes.result (λ a. IsRight before uses changes.entries a.octets.items) (λ a. AreGoingOn changes.entries (map string_bytes a.going_on.items))
+    when_both c.with_changes.result (λ a. IsRightlyAdapted before uses changes.entries a.octets.items) (λ a. AreGoingOn changes.entries (map string_bytes a.going_on.items))
     (λ a. IsAdapted listed octets (map string_bytes a.going_on.items) a.octets.items)
     (λ a right going_on. is_adapted listed octets a.octets.items before uses changes.entries (map string_bytes a.going_on.items) c.requires.uses are_changes right going_on c.requires.came
     (λ e. true≢false (sym (c.is_empty.ensures.1 (ap length e)) ∙ c.if-is_empty.false)))

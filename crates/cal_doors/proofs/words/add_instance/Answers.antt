@@ -4,7 +4,7 @@ use Rattle.std.proofs.lemmas.List.Elements.{All-push}
 use Rattle.ical_lines.specs.Text.{line_text}
 use Rattle.profile.specs.events.Properties.{Fixed, is_of}
 use Rattle.profile.specs.events.ZonedTimes.{SaysInstant}
-use Rattle.cal_doors.specs.Told.{IsInstanceOf, AreInstancesOf}
+use Rattle.cal_doors.specs.Told.{IsInstanceOf, AreAllInstancesOf}
 use Rattle.cal_doors.proofs.words.add_instance.Goals as goal
 
 pub returns : goal.returns
@@ -14,7 +14,7 @@ returns c = λ object lines zones event among are.
     let fits : FitsSigned w64 instant = search rules in
     let kept : to_z w64 (of_z w64 instant) ≡ instant = to_z-of_z fits in
     let says = subst (SaysInstant object (line_text c.args.line) Fixed) (sym kept) (c.in-Some.ensures.says object zones) in
-    subst (AreInstancesOf object) (sym c.in_ok-push.ensures.items)
+    subst (AreAllInstancesOf object) (sym c.in_ok-push.ensures.items)
     (All-push (IsInstanceOf object) c.args.instances.now.items (record { text = c.text-text.result; instant = to_z w64 (of_z w64 instant) }) are (record {
       lines = lines;
       event = event;

@@ -1,6 +1,6 @@
 use Rattle.std.proofs.Common.{◌≡◌, refl, inl, inr, sym, subst, to_z, of_z, w64, FitsSigned, rules, to_z-of_z}
 use Rattle.cal_events.specs.Series.{series_said}
-use Rattle.cal_period.specs.Onward.{Settles}
+use Rattle.cal_period.specs.Onward.{SettlesPair}
 use Rattle.cal_period.specs.Spanning.{AreComparedTo}
 use Rattle.cal_period.proofs.Settling.{horizon_settles, span_settles}
 use Rattle.cal_period.proofs.settled.settled_by.Goals as goal
@@ -12,7 +12,7 @@ returns-in-Some-clause-settles c =
     let is = c.in-Some.ensures in
     let fits : FitsSigned w64 c.in-Some.span.bound = search rules in
     let cast : to_z w64 (of_z w64 c.in-Some.span.bound) ≡ c.in-Some.span.bound = to_z-of_z fits in
-    subst (Settles (series_said a) (series_said b)) (sym cast)
+    subst (SettlesPair (series_said a) (series_said b)) (sym cast)
     (span_settles (record { last = c.instances_last.ensures.said; repeat = c.series_repeat.ensures.earlier; zones = c.zones_repeat.ensures.said }) (series_said a) (series_said b) c.in-Some.span.from c.in-Some.span.bound c.in-Some.span.days
     is.0.span is.1 (c.series_are_said.ensures a) (c.series_are_said.ensures b))
 

@@ -3,7 +3,7 @@ use Rattle.std.proofs.lemmas.List.{map-append, length-map}
 use Rattle.cal_events.specs.Series.{series_said}
 use Rattle.clash_cert.specs.declared.certificate.Pair.{Pair}
 use Rattle.clash_cert.specs.Texts.{entry_said, pair_said}
-use Rattle.clash_cert.specs.Chosen.{AreKept, ArePairsMade}
+use Rattle.clash_cert.specs.Chosen.{AreKeptFrom, ArePairsMade}
 use Rattle.clash_cert.proofs.ChosenLemmas.{pairs_more, row_end}
 use Rattle.clash_cert.proofs.choosing.push_row.Goals as goal
 
@@ -13,7 +13,7 @@ loop-j-preserved c =
     let j = c.loop-j.j in
     let xs = c.args.series.now in
     let all = map series_said xs in
-    let known = AreKept c.args.old.now c.args.kept.now all in
+    let known = AreKeptFrom c.args.old.now c.args.kept.now all in
     let entry = c.in_ok-entry.entry in
     let old = c.loop-j.pairs.items in
     let pair : Pair = record { first = i + 1; second = j + 1; entry = entry } in
@@ -26,7 +26,7 @@ pub returns : goal.returns
 returns c =
     let xs = c.args.series.now in
     let all = map series_said xs in
-    let known = AreKept c.args.old.now c.args.kept.now all in
+    let known = AreKeptFrom c.args.old.now c.args.kept.now all in
     let pairs = map pair_said c.loop-j.pairs.items in
     let within = c.requires.within in
     let most = c.loop-j.auto.j-end (omega (arith, within)) in

@@ -3,7 +3,7 @@ use Rattle.std.specs.Prelude.{Some, IfSome}
 use Rattle.std.proofs.lemmas.List.{map-append}
 use Rattle.profile.specs.checker.Certificates.{Pair, IsPairBefore}
 use Rattle.clash_cert.specs.Texts.{entry_said, pair_said}
-use Rattle.clash_cert.specs.Walked.{HasLine, HasPairLines}
+use Rattle.clash_cert.specs.Walked.{HasPairLine, HasPairLines}
 use Rattle.clash_cert.proofs.Walking.{lines_more, next_has}
 use Rattle.clash_cert.proofs.reading.read_pairs.Goals as goal
 
@@ -22,7 +22,7 @@ loop-next-preserved c groups of =
     let left = c.in-Some-read_pair.left.now in
     let entry = entry_said c.in-Some-read_pair.entry in
     let next = c.pair_after-next.result in
-    let inv = subst (λ next. IfSome next (λ p. HasLine n groups p.0 p.1) × HasPairLines n groups next old bytes rest) c.in-Some.is (c.loop-next.invariant groups of) in
+    let inv = subst (λ next. IfSome next (λ p. HasPairLine n groups p.0 p.1) × HasPairLines n groups next old bytes rest) c.in-Some.is (c.loop-next.invariant groups of) in
     let after = c.pair_after-next.ensures groups of inv.0.pair in
     let said : map pair_said c.push.new.self.items ≡ old ++ (record { first = i; second = j; entry = entry }) ∷ [] =
     ap (map pair_said) c.in_ok-push.ensures.items ∙ map-append pair_said c.loop-next.pairs.items ((record { first = i; second = j; entry = c.in-Some-read_pair.entry }) ∷ []) in (

@@ -7,7 +7,7 @@ use Rattle.profile.specs.checker.Certificates.{AreSeriesAt}
 use Rattle.profile.specs.events.Spans.{HaveClash, IsBoundOf, IsSpan}
 use Rattle.clash_cert.specs.Texts.{group_said}
 use Rattle.clash_check.specs.Counted.{AreAllBelow}
-use Rattle.clash_check.specs.Sweeps.{AreDrawn, HaveNoClash}
+use Rattle.clash_check.specs.Sweeps.{IsCountDrawn, HaveNoClash}
 use Rattle.clash_check.proofs.GroupLemmas.{OfThem, group_drawn, group_judged, no_group, no_group_drawn}
 use Rattle.clash_check.proofs.PeriodLemmas.{bound_of}
 use Rattle.clash_check.proofs.groups.group_holds.Goals as goal
@@ -61,6 +61,6 @@ returns g c =
           subst (λ (t : ℤ). MatchBool found (HaveClash those those t) (HaveNoClash those those t)) at
           (c.in_ok-have_clash.ensures.clash those (subst (λ l. AreSeriesAt all l those) (sym c.deref-3.ensures.value) are)));
       count = group_drawn all group bound span is found _ _ (λ those are.
-          subst (λ (t : ℤ). (lists : List (List Instance)) → AreAllBelow those t lists → AreDrawn found (g.D.Drawn.count c.args.drawn.now) (g.D.Drawn.count c.sweep_group.new.drawn) (sum_by length lists)) at
+          subst (λ (t : ℤ). (lists : List (List Instance)) → AreAllBelow those t lists → IsCountDrawn found (g.D.Drawn.count c.args.drawn.now) (g.D.Drawn.count c.sweep_group.new.drawn) (sum_by length lists)) at
           (c.in_ok-have_clash.ensures.count those (subst (λ l. AreSeriesAt all l those) (sym c.deref-3.ensures.value) are)));
     }

@@ -1,7 +1,7 @@
 use Rattle.std.proofs.Common.{◌≡◌, arith, subst, sym, pos, negsuc, ◌-ℤ◌, ◌≤ℤ◌, to_z, of_z, w64, FitsSigned, rules, to_z-of_z}
 use Rattle.std.specs.Int.{saturate_signed}
 use Rattle.std.proofs.lemmas.Int.{ints}
-use Rattle.clash_check.specs.Singles.{IsEntry}
+use Rattle.clash_check.specs.Singles.{IsEntryInstant}
 use Rattle.clash_check.proofs.SingleLemmas.{entry_is}
 use Rattle.clash_check.proofs.singles.entry.Goals as goal
 
@@ -18,4 +18,4 @@ returns c =
     let range = c.ranges.instant in
     let least : negsuc 9_223_372_036_854_775_807 ≤ℤ c.args.instant = omega (arith, ints, range) in
     let most : c.args.instant ≤ℤ pos 9_223_372_036_854_775_807 = omega (arith, ints, range) in
-    subst (IsEntry c.args.instant c.args.width) (sym cast) (entry_is c.args.instant c.args.width c.saturating_sub.result least most c.requires.0 is)
+    subst (IsEntryInstant c.args.instant c.args.width) (sym cast) (entry_is c.args.instant c.args.width c.saturating_sub.result least most c.requires.0 is)

@@ -7,7 +7,7 @@ use Rattle.profile.specs.events.Confirmed.{Confirmed}
 use Rattle.profile.specs.events.Events.{Event}
 use Rattle.profile.specs.events.Starts.{IsInstance}
 use Rattle.cal_events.specs.Sweep.{span_at}
-use Rattle.clash_check.specs.Singles.{HasSharer, HasNoSharer, IsFewMore}
+use Rattle.clash_check.specs.Singles.{HasSharer, IsSharedByNone, IsFewMore}
 use Rattle.clash_check.proofs.SingleLemmas.{met_found, met_some, met_next, met_none, met_all}
 use Rattle.clash_check.proofs.singles.meets_one.Goals as goal
 
@@ -42,7 +42,7 @@ loop-span-preserved g c =
     met_next (g.D.Drawn.calendar c.args.drawn.now) c.args.i spans place (g.D.Drawn.calendar c.loop-span.drawn) _ _ (g.D.Drawn.count c.meets.new.drawn) s there c.loop-span.invariant
     (subst (λ (x : Confirmed). (a : Event) → IsSeriesAt x c.args.i a → AreClear (IsInstance a) (IsInstance a) → IsFewMore (g.D.Drawn.count c.loop-span.drawn) (g.D.Drawn.count c.meets.new.drawn) 3) c.loop-span.invariant.same c.meets.ensures.count)
     (g.D.Drawn.calendar c.meets.new.drawn) c.meets.ensures.calendar
-    (subst (λ (x : Confirmed). (a : Event) → IsSeriesAt x c.args.i a → HasNoSharer a s.start s.end) c.loop-span.invariant.same c.if-meets.ensures.meets)
+    (subst (λ (x : Confirmed). (a : Event) → IsSeriesAt x c.args.i a → IsSharedByNone a s.start s.end) c.loop-span.invariant.same c.if-meets.ensures.meets)
 
 pub returns-clause-meets : goal.returns-clause-meets
 returns-clause-meets g c =

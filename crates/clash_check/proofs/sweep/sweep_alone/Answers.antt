@@ -1,12 +1,12 @@
 use Rattle.std.proofs.Common.{ℤ, sym, subst, refl, rules, to_z-of_z, w64, FitsSigned}
-use Rattle.clash_check.specs.Walks.{IsBelow, BeginsWalk}
+use Rattle.clash_check.specs.Walks.{IsBelow, BeginsAtFirst}
 use Rattle.clash_check.proofs.SweepLemmas.{alone_first, alone_found, alone_some, alone_fewer, alone_past, alone_apart, alone_all}
 use Rattle.clash_check.proofs.sweep.sweep_alone.Goals as goal
 
 pub loop-walk-init : goal.loop-walk-init
 loop-walk-init g c = λ bound at.
     alone_first (g.D.Drawn.calendar c.args.drawn.now) c.is_drawable.ensures c.args.i bound (g.D.Drawn.calendar c.begin-walk.new.drawn) _ _ _ c.begin-walk.result c.begin-walk.ensures.calendar c.begin-walk.ensures.series
-    (λ a there known. subst (λ (b : ℤ). BeginsWalk (IsBelow a b) (g.D.Drawn.coming c.begin-walk.new.drawn c.begin-walk.result.series) b c.begin-walk.result) (sym at) (c.begin-walk.ensures.begins a there known))
+    (λ a there known. subst (λ (b : ℤ). BeginsAtFirst (IsBelow a b) (g.D.Drawn.coming c.begin-walk.new.drawn c.begin-walk.result.series) b c.begin-walk.result) (sym at) (c.begin-walk.ensures.begins a there known))
     c.begin-walk.ensures.count
 
 pub returns-then-is_met_by-clause-shared : goal.returns-then-is_met_by-clause-shared

@@ -1,5 +1,5 @@
 use Rattle.std.proofs.Common.{ℤ, sym, subst, refl, arith, rules, length, to_z-of_z, w64, FitsSigned}
-use Rattle.clash_check.specs.Walks.{IsBelow, BeginsWalk}
+use Rattle.clash_check.specs.Walks.{IsBelow, BeginsAtFirst}
 use Rattle.clash_check.proofs.SweepLemmas.{pair_first, pair_turned, pair_found, pair_some, pair_fewer, pair_past, pair_apart, pair_all, have_turned, some_turned}
 use Rattle.clash_check.proofs.sweep.sweep_pair.Goals as goal
 
@@ -8,8 +8,8 @@ loop-next-init g c = λ bound at.
     pair_first (g.D.Drawn.calendar c.args.drawn.now) c.is_drawable.ensures c.args.i c.args.j bound (g.D.Drawn.calendar c.begin-second.new.drawn) (g.D.Drawn.calendar c.begin-first.new.drawn)
     (g.D.Drawn.coming c.begin-second.new.drawn) (g.D.Drawn.coming c.begin-first.new.drawn) _ _ _ c.begin-first.result c.begin-second.result c.requires.two c.begin-first.ensures.calendar c.begin-second.ensures.calendar
     c.begin-first.ensures.series c.begin-second.ensures.series
-    (λ a there known. subst (λ (b : ℤ). BeginsWalk (IsBelow a b) (g.D.Drawn.coming c.begin-first.new.drawn c.begin-first.result.series) b c.begin-first.result) (sym at) (c.begin-first.ensures.begins a there known))
-    (λ a there known. subst (λ (b : ℤ). BeginsWalk (IsBelow a b) (g.D.Drawn.coming c.begin-second.new.drawn c.begin-second.result.series) b c.begin-second.result) (sym at) (c.begin-second.ensures.begins a there known))
+    (λ a there known. subst (λ (b : ℤ). BeginsAtFirst (IsBelow a b) (g.D.Drawn.coming c.begin-first.new.drawn c.begin-first.result.series) b c.begin-first.result) (sym at) (c.begin-first.ensures.begins a there known))
+    (λ a there known. subst (λ (b : ℤ). BeginsAtFirst (IsBelow a b) (g.D.Drawn.coming c.begin-second.new.drawn c.begin-second.result.series) b c.begin-second.result) (sym at) (c.begin-second.ensures.begins a there known))
     c.begin-second.ensures.others c.begin-first.ensures.count c.begin-second.ensures.count
 
 pub returns-then-is_met_by-clause-shared : goal.returns-then-is_met_by-clause-shared

@@ -1,5 +1,5 @@
--- The lines that are left come, and nothing after them.
-use Rattle.std.proofs.Common.{◌≡◌, ◌++◌, List, ℕ, Some}
+-- The lines that are left come, and nothing after them; what was there before stays.
+use Rattle.std.proofs.Common.{◌≡◌, ◌++◌, List, ℕ, Some, length, take}
 use Rattle.std.specs.Iterator.{AlwaysYields}
 use Rattle.std.specs.Str.Iter.{lines_steps}
 use Rattle.std.specs.Str.Lines.{lines}
@@ -11,3 +11,4 @@ abbrev pub invariant-loop-line : goal.invariant-loop-line
 invariant-loop-line l =
     (left : List (List ℕ)) × AlwaysYields lines_steps (λ x. x.now) l.line-iterator left
     × (l.object ++ written (named_lines (name_of (Some l.number)) left) ≡ l.fn.object ++ written (named_lines (name_of (Some l.number)) (lines l.text)))
+    × (take (length l.fn.object) l.object ≡ l.fn.object)

@@ -6,20 +6,28 @@ use Rattle.std.specs.Str.Lines.{lines}
 use Rattle.std.proofs.lemmas.Iterator.Splits.{YieldsList-from_lines}
 use Rattle.profile.specs.text.Lines.{written}
 use Rattle.ical_lines.proofs.Yields.{some_more, none_more}
+use Rattle.itip_messages.proofs.shared_lemmas.LineLemmas.{kept_at_first, kept_by_more, taken_back}
 use Rattle.itip_messages.proofs.shared_lemmas.WrittenLines.{one_written}
 use Rattle.itip_messages.proofs.body_text.write_lines.Goals as goal
 
 pub loop-line-init : goal.loop-line-init
-loop-line-init c = (lines c.args.text.now, subst (λ s. AlwaysYields lines_steps (λ x. x.now) s (lines c.args.text.now)) (sym c.into_iter-line-iterator.ensures.into_iter_gives) (YieldsList-from_lines c.args.text.now c.lines-line-items.ensures.rest).runs, refl)
+loop-line-init c = (lines c.args.text.now, subst (λ s. AlwaysYields lines_steps (λ x. x.now) s (lines c.args.text.now)) (sym c.into_iter-line-iterator.ensures.into_iter_gives) (YieldsList-from_lines c.args.text.now c.lines-line-items.ensures.rest).runs, refl, kept_at_first _ _ refl)
 
 pub loop-line-preserved : goal.loop-line-preserved
 loop-line-preserved c =
     let i = c.loop-line.invariant in
-    let more = some_more lines_steps (λ x. x.now) c.loop-line.line-iterator c.next.new.self c.in-Some.line i.0 i.1 c.in-Some.ensures.steps in
-    (more.0, more.2, one_written c.loop-line.object c.line.new.self c.in-Some.line.now i.0 more.0 _ c.in_ok-line.ensures.ok more.1 i.2)
+    let more = some_more lines_steps (λ x. x.now) c.loop-line.line-iterator c.next.new.self c.in-Some.line i.0 i.1 c.in-Some.ensures.steps in (
+      more.0,
+      more.2,
+      one_written c.loop-line.object c.line.new.self c.in-Some.line.now i.0 more.0 _ c.in_default.ensures.ok more.1 i.2,
+      kept_by_more _ _ _ _ i.3 c.in_default.ensures.ok,
+    )
 
-pub returns : goal.returns
-returns c =
+pub returns-in-Err-clause-err : goal.returns-in-Err-clause-err
+returns-in-Err-clause-err c = taken_back _ c.loop-line.object _ _ _ c.loop-line.invariant.3 c.in-Err.ensures.err c.len-kept.ensures c.truncate.ensures
+
+pub returns-clause-ok : goal.returns-clause-ok
+returns-clause-ok c =
     let i = c.loop-line.invariant in
     let none = none_more lines_steps (λ x. x.now) c.loop-line.line-iterator c.next.new.self i.0 i.1 c.in-None.ensures.steps in
     sym (append-nil c.loop-line.object) ∙ ap (λ l. c.loop-line.object ++ written l) (sym none) ∙ i.2

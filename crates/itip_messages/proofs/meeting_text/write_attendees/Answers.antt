@@ -20,7 +20,7 @@ pub loop-attendee-preserved : goal.loop-attendee-preserved
 loop-attendee-preserved g c =
     let IsLine = g.A.AttendeeLines.line c.args.lines.now (slot_of c.args.component.now.slot) in
     subst (λ (said : List Attendee). WritesLines c.args.object.now c.write_line.new.object (AllZip IsLine said)) (sym (map-append line_said c.loop-attendee.yielded (c.in-Some.attendee ∷ [])))
-    (attendee_more IsLine (map line_said c.loop-attendee.yielded) (line_said c.in-Some.attendee) c.args.object.now c.loop-attendee.object c.write_line.new.object c.loop-attendee.invariant c.in_ok-write_line.ensures)
+    (attendee_more IsLine (map line_said c.loop-attendee.yielded) (line_said c.in-Some.attendee) c.args.object.now c.loop-attendee.object c.write_line.new.object c.loop-attendee.invariant c.in_ok-write_line.ensures.ok)
 
 pub returns : goal.returns
 returns g c =

@@ -9,4 +9,4 @@ loop-event-preserved c =
     let i = c.loop-event.event-index in
     let event = c.event-item.result in
     let more : take (i + 1) events ≡ take i events ++ event ∷ [] = take_more events i event (omega arith) ∙ ap (λ x. take i events ++ x ∷ []) (sym c.event-item.is) in
-    rw more (events_more (take i events) event _ _ _ c.loop-event.invariant c.in_ok-write_event.ensures)
+    rw more (events_more (take i events) event _ _ _ c.loop-event.invariant c.in_ok-write_event.ensures.ok)

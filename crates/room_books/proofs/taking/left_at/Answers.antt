@@ -4,7 +4,7 @@ use denote.Ref.{Bor}
 use Rattle.itip_order.specs.Parts.{part_of}
 use Rattle.room_books.specs.declared.meeting.PartAnswer.{PartAnswer}
 use Rattle.room_books.specs.Slots.{givens}
-use Rattle.room_books.specs.Gone.{Sheds, IsSplit}
+use Rattle.room_books.specs.Gone.{Sheds, IsSplitInto}
 use Rattle.room_books.specs.Taking.{series_still, singles_of_left}
 use Rattle.room_books.specs.Meeting.{all_series, all_singles, AreFewer}
 use Rattle.room_books.specs.Room.{KeepsSome}
@@ -46,7 +46,7 @@ loop-given-preserved c =
           (keeps_more part slots before after (givens (take i out)) old new given o c.loop-given.invariant.0 c.in_ok-still.ensures.still
           (λ found e. c.in_ok-push.ensures.items ∙ ap (λ x. old ++ x ∷ []) (some_is left found (sym c.in-Some.is ∙ e)))
           (λ e. absurd (none_is left (sym c.in-Some.is ∙ e)))),
-      subst (λ (l : List PartAnswer). IsSplit (all_singles l) c.still.new.gone.items (all_singles new)) (sym more)
+      subst (λ (l : List PartAnswer). IsSplitInto (all_singles l) c.still.new.gone.items (all_singles new)) (sym more)
           (one_shed (givens (take i out)) given left.singles.items (all_singles old) (all_singles new) c.loop-given.gone.items c.still.new.gone.items shed
           (ap all_singles c.in_ok-push.ensures.items ∙ flat_push (λ (x : PartAnswer). x.singles.items) old left) c.loop-given.invariant.1),
       subst (λ (l : List PartAnswer). AreFewer (all_series l) (all_series new)) (sym more)
@@ -68,7 +68,7 @@ loop-given-preserved-in_default c =
           (keeps_more part slots before after (givens (take i out)) old old given c.in_ok-still.field-0 c.loop-given.invariant.0 c.in_ok-still.ensures.still
           (λ left e. absurd (none_is left (sym e ∙ c.in_default.is)))
           (λ e. refl)),
-      subst (λ (l : List PartAnswer). IsSplit (all_singles l) c.still.new.gone.items (all_singles old)) (sym more)
+      subst (λ (l : List PartAnswer). IsSplitInto (all_singles l) c.still.new.gone.items (all_singles old)) (sym more)
           (one_shed (givens (take i out)) given [] (all_singles old) (all_singles old) c.loop-given.gone.items c.still.new.gone.items shed (sym (append-nil (all_singles old))) c.loop-given.invariant.1),
       subst (λ (l : List PartAnswer). AreFewer (all_series l) (all_series old)) (sym more)
           (one_fewer (givens (take i out)) given [] (all_series old) (all_series old) (fewer_none (option_to_list given.series)) (sym (append-nil (all_series old))) c.loop-given.invariant.2),

@@ -1,7 +1,7 @@
 use Rattle.std.proofs.Common.{take}
 use Rattle.itip_order.specs.Parts.{part_of}
 use Rattle.room_books.specs.Slots.{givens}
-use Rattle.room_books.specs.Gone.{IsSplit}
+use Rattle.room_books.specs.Gone.{IsSplitInto}
 use Rattle.room_books.specs.Room.{KeepsSome}
 use Rattle.room_books.specs.Meeting.{all_series, all_singles, AreFewer}
 use Rattle.room_books.proofs.taking.left_at.Given as goal
@@ -9,5 +9,5 @@ use Rattle.room_books.proofs.taking.left_at.Given as goal
 abbrev pub invariant-loop-given : goal.invariant-loop-given
 invariant-loop-given l =
     KeepsSome (part_of l.part) l.slots l.before l.after (givens (take l.given-index l.out)) l.left.items
-    × IsSplit (all_singles (givens (take l.given-index l.out))) l.gone.items (all_singles l.left.items)
+    × IsSplitInto (all_singles (givens (take l.given-index l.out))) l.gone.items (all_singles l.left.items)
     × AreFewer (all_series (givens (take l.given-index l.out))) (all_series l.left.items)

@@ -4,8 +4,9 @@ use Rattle.std.specs.Prelude.{Option, find, option_copied}
 use Rattle.ical_tree.specs.Tree.{component_children}
 use Rattle.ical_tree.specs.declared.component.Component.{Component}
 use Rattle.profile.specs.events.Properties.{BothOrNeither}
-use Rattle.cal_doors.specs.Named.{is_zone_called}
-use Rattle.cal_doors.proofs.NamedTables.{IsThat, zone_among, there, not_there}
+use Rattle.cal_zones.specs.ZoneNames.{is_zone_called}
+use Rattle.cal_zones.proofs.ZoneTables.{zone_among}
+use Rattle.cal_doors.proofs.NamedTables.{IsThat, there, not_there}
 use Rattle.cal_doors.proofs.named.NamedZones.named.Goals as goal
 
 pub returns-in-Some : goal.returns-in-Some

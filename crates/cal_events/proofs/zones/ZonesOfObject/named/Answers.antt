@@ -7,8 +7,10 @@ use Rattle.ical_tree.specs.Tree.{component_children}
 use Rattle.profile.specs.text.Trees.{Tree}
 use Rattle.profile.specs.events.Properties.{BothOrNeither}
 use Rattle.profile.specs.events.ZonedTimes.{SaysZoneOf, NamedFault}
-use Rattle.cal_events.specs.Zones.{is_zone_called, IsZoneRead}
-use Rattle.cal_events.proofs.shared_lemmas.ZonedLemmas.{zone_among, zone_read, no_zone_read}
+use Rattle.cal_zones.specs.ZoneNames.{is_zone_called}
+use Rattle.cal_zones.proofs.ZoneTables.{zone_among}
+use Rattle.cal_events.specs.Zones.{IsZoneRead}
+use Rattle.cal_events.proofs.shared_lemmas.ZonedLemmas.{zone_read, no_zone_read}
 use Rattle.cal_events.proofs.zones.ZonesOfObject.named.Goals as goal
 
 pub returns-in-Some-clause-says : goal.returns-in-Some-clause-says

@@ -6,7 +6,7 @@ use Rattle.profile.specs.rooms.Revisions.{Part}
 use Rattle.room_books.specs.declared.kept.Meeting.{Meeting}
 use Rattle.room_books.specs.declared.meeting.PartAnswer.{PartAnswer}
 use Rattle.room_books.specs.Slots.{Reordered}
-use Rattle.room_books.specs.Taking.{answers_by, answers_then, held_after, parts_said, IsMade}
+use Rattle.room_books.specs.Taking.{answers_by, answers_then, held_after, parts_said, IsMadeOf}
 use Rattle.room_books.specs.Meeting.{same_key}
 use Rattle.room_books.proofs.room_lemmas.Afters.{has_history_after}
 use Rattle.room_books.proofs.room.Room.taken_by.Goals as goal
@@ -21,7 +21,7 @@ settled-requires-clause-held c = λ history h.
 pub returns-clause-after : goal.returns-clause-after
 returns-clause-after c = λ is_key fit book st meeting is.
     let held = c.held_with-held.ensures ∙ ap (λ (o : Option Meeting). held_after o c.args.more.now) c.get.ensures.value in
-    c.in_ok-settled.ensures.after is_key fit book st meeting (subst (λ (l : List Part). IsMade l (answers_then (answers_by (lookup (same_key c.args.key.now) c.args.self.now.meetings.entries)) c.in_ok-settled.settled.changes) meeting) (sym held) is)
+    c.in_ok-settled.ensures.after is_key fit book st meeting (subst (λ (l : List Part). IsMadeOf l (answers_then (answers_by (lookup (same_key c.args.key.now) c.args.self.now.meetings.entries)) c.in_ok-settled.settled.changes) meeting) (sym held) is)
 
 pub returns-clause-replies : goal.returns-clause-replies
 returns-clause-replies c = λ own meeting fit is_own is meets.

@@ -6,10 +6,10 @@ use Rattle.profile.specs.rooms.Revisions.{Part}
 use Rattle.room_books.specs.declared.meeting.PartAnswer.{PartAnswer}
 use Rattle.room_books.specs.declared.kept.Meeting.{Meeting}
 use Rattle.room_books.specs.Slots.{givens, left_without, taken_at, is_touched}
-use Rattle.room_books.specs.Gone.{IsParted, IsSplit}
+use Rattle.room_books.specs.Gone.{IsPartedInto, IsSplitInto}
 use Rattle.room_books.specs.Taking.{IsLeftAlone, kept_then}
 use Rattle.room_books.specs.Meeting.{all_series, all_singles, series_by, singles_by, AreFewer}
-use Rattle.room_books.specs.Room.{KeepsAll, KeepsSome}
+use Rattle.room_books.specs.Room.{KeepsEach, KeepsSome}
 use Rattle.room_books.proofs.taking_lemmas.Own.{keeps_new, keeps_all}
 use Rattle.room_books.proofs.shared_lemmas.Reordering.{re_parts}
 use Rattle.room_books.proofs.shared_lemmas.Fewer.{all_fewer, fewer_none}
@@ -20,7 +20,7 @@ pub returns-in_default-clause-kept : goal.returns-in_default-clause-kept
 returns-in_default-clause-kept c =
     let part = part_of c.args.part.now in let slots = c.args.slots.now in let after = c.args.self.now.after.now in
     let lost = c.new.result.items in let left = c.new-in_default.result.items in
-    subst (λ (o : Option Meeting). KeepsAll part slots o after (kept_then o lost left)) (sym (ap option_copied c.in_default.is)) (keeps_new part slots after left c.new-in_default.ensures.items)
+    subst (λ (o : Option Meeting). KeepsEach part slots o after (kept_then o lost left)) (sym (ap option_copied c.in_default.is)) (keeps_new part slots after left c.new-in_default.ensures.items)
 
 pub returns-clause-kept : goal.returns-clause-kept
 returns-clause-kept c =
@@ -32,7 +32,7 @@ returns-clause-kept c =
     let out_is : givens c.deref-4.result.now ≡ taken_at lost answers = ap givens c.deref-4.ensures.value ∙ c.in_ok-out.ensures ∙ (λ i. taken_at (slots_are i) (c.deref-2.ensures.value i)) in
     let some : KeepsSome part slots meeting.held after (taken_at lost answers) left =
     subst (λ (l : List PartAnswer). KeepsSome part slots meeting.held after l left) out_is (subst (λ (held : List Part). KeepsSome part slots held after (givens c.deref-4.result.now) left) c.alone-before.ensures c.in_ok-kept.ensures.left) in
-    subst (λ (o : Option Meeting). KeepsAll part slots o after (kept_then o lost left)) (sym (ap option_copied c.in-Some.is))
+    subst (λ (o : Option Meeting). KeepsEach part slots o after (kept_then o lost left)) (sym (ap option_copied c.in-Some.is))
     (keeps_all part slots meeting after lost left some
     (λ given among untouched. subst (λ (held : List Part). IsLeftAlone slots held after part given) c.alone-before.ensures
     (c.in_ok-lost.ensures.others given (subst (λ (l : List PartAnswer). Contains l given) (sym c.deref.ensures.value) among) (sym (ap (λ l. is_touched l (slot_of given.slot)) lost_is) ∙ untouched))))
@@ -44,9 +44,9 @@ returns-clause-parted c =
     let lost_is : lost ≡ c.in_ok-lost.lost.items = ap (λ v. v.items) c.in_ok-kept.ensures.lost in
     let slots_are : c.deref-3.result.now ≡ lost = c.deref-3.ensures.value ∙ sym lost_is in
     let out_is : givens c.deref-4.result.now ≡ taken_at lost answers = ap givens c.deref-4.ensures.value ∙ c.in_ok-out.ensures ∙ (λ i. taken_at (slots_are i) (c.deref-2.ensures.value i)) in
-    subst (λ (o : Option Meeting). IsParted (singles_by o) gone (all_singles (kept_then o lost left))) (sym (ap option_copied c.in-Some.is))
+    subst (λ (o : Option Meeting). IsPartedInto (singles_by o) gone (all_singles (kept_then o lost left))) (sym (ap option_copied c.in-Some.is))
     (whole_parted answers (taken_at lost answers) (left_without lost answers) left gone (re_parts (λ (g : PartAnswer). is_touched lost (slot_of g.slot)) answers)
-    (subst (λ (l : List PartAnswer). IsSplit (all_singles l) gone (all_singles left)) out_is c.in_ok-kept.ensures.split))
+    (subst (λ (l : List PartAnswer). IsSplitInto (all_singles l) gone (all_singles left)) out_is c.in_ok-kept.ensures.split))
 
 pub returns-in_default-clause-fewer : goal.returns-in_default-clause-fewer
 returns-in_default-clause-fewer c =

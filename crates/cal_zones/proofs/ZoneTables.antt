@@ -1,21 +1,20 @@
--- The table of an object's zones grows by one component at a time.
--- Cited by add_zone.
-use Rattle.std.proofs.Common.{◌≡◌, ◌∙◌, ap, sym, refl, subst, ℕ, Bool, true, false, cond, codes, ◌&&◌, List, [], ◌∷◌, ◌++◌}
-use Rattle.std.specs.Prelude.{Option, Some, None, is_some, find, option_map, unwrap_or, Result, String, string_bytes}
+-- A table of VTIMEZONEs by their names grows by one component at a time, and what it has of a name.
+-- Behind NamedZones of cal_doors and ZonesOfObject of cal_events.
+use Rattle.std.proofs.Common.{◌≡◌, ◌∙◌, ap, sym, refl, subst, ℕ, Bool, true, false, cond, codes, ◌&&◌, List, [], ◌∷◌, ◌++◌, map, filter}
+use Rattle.std.specs.Prelude.{Option, Some, None, is_some, find, option_map, unwrap_or, String, string_bytes}
 use Rattle.std.specs.Map.{lookup}
 use Rattle.std.specs.Str.{bytes_eq}
-use Rattle.indexmap.specs.IndexMap.{insert_entry}
 use Rattle.std.proofs.lemmas.Bool.{true≢false}
 use Rattle.std.proofs.lemmas.Option.{none-some, same_Some}
 use Rattle.std.proofs.lemmas.Slice.Eq.{bytes_eq-Decides}
-use Rattle.cal_zones.specs.declared.zone.Zone.{Zone}
-use Rattle.ical_lines.specs.declared.fault.Refusal.{Refusal}
-use Rattle.ical_tree.specs.Tree.{component_name, component_lines}
+use Rattle.ical_tree.specs.Tree.{component_name, component_lines, component_children, tree_of}
+use Rattle.ical_tree.proofs.TreeOfLemmas.{tree_of-name, tree_of-own, tree_of-inside}
 use Rattle.ical_tree.specs.declared.component.Component.{Component}
 use Rattle.profile.specs.text.Lines.{is_same_name}
+use Rattle.profile.specs.text.Trees.{Tree, tree_name, tree_own}
 use Rattle.profile.specs.events.Properties.{BothOrNeither}
-use Rattle.profile.specs.events.ZonedTimes.{zone_name}
-use Rattle.cal_events.specs.Zones.{zone_name_said, is_zone_called, IsZoneRead, AreZonesAmong}
+use Rattle.profile.specs.events.ZonedTimes.{zone_name, has_zone_name, zone_named}
+use Rattle.cal_zones.specs.ZoneNames.{zone_name_said, is_zone_called, AreByName}
 
 -- ---- a search in a list with one more item
 
@@ -90,48 +89,62 @@ none_from (Some x) h = absurd (true≢false h)
 
 -- ---- one more component
 
-abbrev Entries : Type 0 → Type 0
-Entries Y = List (String Y × Result Zone Refusal)
-
-module _ {Y : Type 0} where
-  pub no_zone_more : (c : Component) (earlier : List Component) (zones : Entries Y) → zone_name_said c ≡ None → AreZonesAmong earlier zones
-      → AreZonesAmong (earlier ++ c ∷ []) zones
+module _ {V Y : Type 0} (Is : Component → V → Type 0) where
+  pub no_zone_more : (c : Component) (earlier : List Component) (zones : List (String Y × V)) → zone_name_said c ≡ None → AreByName Is earlier zones
+      → AreByName Is (earlier ++ c ∷ []) zones
   no_zone_more c earlier zones none h name =
-      let kept = both_kept IsZoneRead c (find (is_zone_called name) earlier) (lookup (λ key. bytes_eq name (string_bytes key)) zones) (is_zone_called name c)
+      let kept = both_kept Is c (find (is_zone_called name) earlier) (lookup (λ key. bytes_eq name (string_bytes key)) zones) (is_zone_called name c)
       (λ here. absurd (true≢false (sym here ∙ not_called c name none))) (h name) in
-      subst (λ o. BothOrNeither IsZoneRead o (lookup (λ key. bytes_eq name (string_bytes key)) zones)) (sym (find_push (is_zone_called name) c earlier)) kept
+      subst (λ o. BothOrNeither Is o (lookup (λ key. bytes_eq name (string_bytes key)) zones)) (sym (find_push (is_zone_called name) c earlier)) kept
 
   -- a name that is there already
-  pub same_name_more : (c : Component) (earlier : List Component) (zones : Entries Y) (given : List ℕ) → zone_name_said c ≡ Some given
-      → is_some (lookup (λ key. bytes_eq given (string_bytes key)) zones) ≡ true → AreZonesAmong earlier zones → AreZonesAmong (earlier ++ c ∷ []) zones
+  pub same_name_more : (c : Component) (earlier : List Component) (zones : List (String Y × V)) (given : List ℕ) → zone_name_said c ≡ Some given
+      → is_some (lookup (λ key. bytes_eq given (string_bytes key)) zones) ≡ true → AreByName Is earlier zones → AreByName Is (earlier ++ c ∷ []) zones
   same_name_more c earlier zones given said there h name =
       let o = lookup (λ key. bytes_eq name (string_bytes key)) zones in
       let also : is_zone_called name c ≡ true → is_some o ≡ true =
       λ here. subst (λ (n : List ℕ). is_some (lookup (λ key. bytes_eq n (string_bytes key)) zones) ≡ true) ((bytes_eq-Decides given name).0 (sym (called c name given said) ∙ here)) there in
-      let kept = both_kept IsZoneRead c (find (is_zone_called name) earlier) o (is_zone_called name c) also (h name) in
-      subst (λ f. BothOrNeither IsZoneRead f o) (sym (find_push (is_zone_called name) c earlier)) kept
-
-  inserted : (k : String Y) (v : Result Zone Refusal) (es : Entries Y) → lookup (λ key. bytes_eq (string_bytes k) (string_bytes key)) es ≡ None
-      → insert_entry (λ a b. bytes_eq (string_bytes a) (string_bytes b)) es k v ≡ es ++ (k, v) ∷ []
-  inserted k v [] absent = refl
-  inserted k v (e ∷ es) absent = go (bytes_eq (string_bytes k) (string_bytes e.0)) (inserted k v es) absent
-    where
-      go : (b : Bool)
-          → (lookup (λ key. bytes_eq (string_bytes k) (string_bytes key)) es ≡ None → insert_entry (λ a b. bytes_eq (string_bytes a) (string_bytes b)) es k v ≡ es ++ (k, v) ∷ [])
-          → cond b (Some e.1) (lookup (λ key. bytes_eq (string_bytes k) (string_bytes key)) es) ≡ None
-          → cond b ((e.0, v) ∷ es) (e ∷ insert_entry (λ a b. bytes_eq (string_bytes a) (string_bytes b)) es k v) ≡ e ∷ (es ++ (k, v) ∷ [])
-      go true rest h = absurd (none-some e.1 (sym h))
-      go false rest h = ap (λ l. e ∷ l) (rest h)
+      let kept = both_kept Is c (find (is_zone_called name) earlier) o (is_zone_called name c) also (h name) in
+      subst (λ f. BothOrNeither Is f o) (sym (find_push (is_zone_called name) c earlier)) kept
 
   -- the first of a name
-  pub zone_more : (c : Component) (earlier : List Component) (old new : Entries Y) (k : String Y) (v : Result Zone Refusal) → zone_name_said c ≡ Some (string_bytes k)
-      → IsZoneRead c v → lookup (λ key. bytes_eq (string_bytes k) (string_bytes key)) old ≡ None
-      → new ≡ insert_entry (λ a b. bytes_eq (string_bytes a) (string_bytes b)) old k v → AreZonesAmong earlier old → AreZonesAmong (earlier ++ c ∷ []) new
-  zone_more c earlier old new k v said read absent is h name =
+  pub zone_more : (c : Component) (earlier : List Component) (old new : List (String Y × V)) (k : String Y) (v : V) → zone_name_said c ≡ Some (string_bytes k)
+      → Is c v
+      → new ≡ old ++ (k, v) ∷ [] → AreByName Is earlier old → AreByName Is (earlier ++ c ∷ []) new
+  zone_more c earlier old new k v said read is h name =
       let q : String Y → Bool = λ key. bytes_eq name (string_bytes key) in
-      let both = both_pushed IsZoneRead c v (find (is_zone_called name) earlier) (lookup q old) (is_zone_called name c) read (h name) in
+      let both = both_pushed Is c v (find (is_zone_called name) earlier) (lookup q old) (is_zone_called name c) read (h name) in
       let same : is_zone_called name c ≡ q k = called c name (string_bytes k) said ∙ bytes_sym (string_bytes k) name in
       let looked : lookup q new ≡ or_else (lookup q old) (cond (is_zone_called name c) (Some v) None) =
-      ap (lookup q) (is ∙ inserted k v old absent) ∙ lookup_push q k v old ∙ ap (λ b. or_else (lookup q old) (cond b (Some v) None)) (sym same) in
-      subst (λ o. BothOrNeither IsZoneRead (find (is_zone_called name) (earlier ++ c ∷ [])) o) (sym looked)
-      (subst (λ f. BothOrNeither IsZoneRead f (or_else (lookup q old) (cond (is_zone_called name c) (Some v) None))) (sym (find_push (is_zone_called name) c earlier)) both)
+      ap (lookup q) is ∙ lookup_push q k v old ∙ ap (λ b. or_else (lookup q old) (cond b (Some v) None)) (sym same) in
+      subst (λ o. BothOrNeither Is (find (is_zone_called name) (earlier ++ c ∷ [])) o) (sym looked)
+      (subst (λ f. BothOrNeither Is f (or_else (lookup q old) (cond (is_zone_called name c) (Some v) None))) (sym (find_push (is_zone_called name) c earlier)) both)
+
+-- ---- the first component of a name
+
+find_kept : (q : Tree → Bool) (p : Bool) (c : Component) (ts : List Tree) (y : Option Component) → find q ts ≡ option_map tree_of y
+    → find q (cond p (tree_of c ∷ ts) ts) ≡ option_map tree_of (cond (p && q (tree_of c)) (Some c) y)
+find_kept q true c ts y h = go (q (tree_of c))
+  where
+    go : (b : Bool) → cond b (Some (tree_of c)) (find q ts) ≡ option_map tree_of (cond b (Some c) y)
+    go true = refl
+    go false = h
+find_kept q false c ts y h = h
+
+find_both : (p q : Tree → Bool) (r : Component → Bool) → ((c : Component) → (p (tree_of c) && q (tree_of c)) ≡ r c) → (cs : List Component)
+    → find q (filter p (map tree_of cs)) ≡ option_map tree_of (find r cs)
+find_both p q r e [] = refl
+find_both p q r e (c ∷ cs) =
+    find_kept q (p (tree_of c)) c (filter p (map tree_of cs)) (find r cs) (find_both p q r e cs)
+    ∙ ap (λ b. option_map tree_of (cond b (Some c) (find r cs))) (e c)
+
+called_tree : (name : List ℕ) (c : Component) → (is_same_name (tree_name (tree_of c)) (codes "VTIMEZONE") && has_zone_name name (tree_own (tree_of c))) ≡ is_zone_called name c
+called_tree name c =
+    ap (λ n. is_same_name n (codes "VTIMEZONE") && has_zone_name name (tree_own (tree_of c))) (tree_of-name c)
+    ∙ ap (λ own. is_same_name (component_name c) (codes "VTIMEZONE") && has_zone_name name own) (tree_of-own c)
+
+-- the VTIMEZONE of a name is the first component that is one of this name
+pub zone_among : (name : List ℕ) (object : Component) → zone_named name (tree_of object) ≡ option_map tree_of (find (is_zone_called name) (component_children object))
+zone_among name object =
+    ap (λ (ts : List Tree). find (λ part. has_zone_name name (tree_own part)) (filter (λ part. is_same_name (tree_name part) (codes "VTIMEZONE")) ts)) (tree_of-inside object)
+    ∙ find_both (λ part. is_same_name (tree_name part) (codes "VTIMEZONE")) (λ part. has_zone_name name (tree_own part)) (is_zone_called name) (called_tree name) (component_children object)

@@ -3,7 +3,7 @@ use Rattle.std.specs.Prelude.{find}
 use Rattle.ical_tree.specs.Runs.{lines_left}
 use Rattle.ical_tree.specs.Tree.{component_lines}
 use Rattle.profile.specs.events.Properties.{is_of}
-use Rattle.cal_events.proofs.zones.first_named.Given as goal
+use Rattle.cal_zones.proofs.zone_names.first_named.Given as goal
 
 -- the lines that are left decide it
 abbrev pub invariant-loop-line : goal.invariant-loop-line
