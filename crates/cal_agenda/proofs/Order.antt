@@ -36,7 +36,7 @@ comes_first a b differ not = go (instance_cmp a b) refl
     go Greater e = absurd (true≢false (sym (ap is_lt (instance_total.antisymm b a ∙ ap ordering_reverse e)) ∙ not))
 
 pub differ_permuted : (xs ys : List SaidInstance) → IsPermutation xs ys → HaveDifferentKeys xs → HaveDifferentKeys ys
-differ_permuted xs ys same p = pairs_permuted (λ a b. a.key ≢ b.key) (λ a b differ e. differ (sym e)) xs ys same p
+differ_permuted xs ys same p = pairs_permuted (λ (a b : SaidInstance). a.key ≢ b.key) (λ a b differ e. differ (sym e)) xs ys same p
 
 in_order : (xs : List SaidInstance) → IsSortedBy (λ a b. is_lt (instance_cmp a b)) xs → HaveDifferentKeys xs → AllPairs (λ a b. instance_cmp a b ≡ Less) xs
 in_order xs up differ i j d less within =

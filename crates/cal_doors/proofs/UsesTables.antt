@@ -13,7 +13,7 @@ use Rattle.profile.specs.events.Properties.{is_of}
 use Rattle.profile.specs.doors.Uses.{is_time_line, SaysLocal, IsLineIn, LastsDays, EventEndsBy}
 use Rattle.cal_doors.specs.declared.uses.Use.{Use}
 use Rattle.cal_doors.specs.Used.{held, CoversEvent, AreUsesOf, AreUsesWith, IsAsWide, IsWidened, AddsUsesOf, AllBeginBy}
-use Rattle.cal_doors.specs.Used.AddsLine.{names_none, names_one}
+use Rattle.cal_doors.specs.Used.AddsUsesOf.{names_none, names_one}
 use Rattle.cal_doors.proofs.UsesScans.{none_in, of_filtered}
 use Rattle.cal_doors.proofs.UsesLines.{through, event_later}
 

@@ -69,7 +69,7 @@ impl Model for Certificate {
 
     ghost Value = { Claims };
 
-    ghost view = { λ c. claims_said c.singles c.series c.groups c.pairs.items };
+    ghost view = { λ c. claims_of_text c.singles c.series c.groups c.pairs.items };
 
     ghost invariant = { λ c. IsClaims (claims_of_text c.singles c.series c.groups c.pairs.items) };
 }

@@ -49,11 +49,11 @@ impl Changes {
 
 impl Meeting {
     ghost use Rattle.itip_order.specs.Registers.{together};
-    ghost use Rattle.room_books.specs.Taking.{answers_then, IsMade};
+    ghost use Rattle.room_books.specs.Taking.{answers_then, IsMadeOf};
 
     /// One of which nothing was taken before.
     pub fn new(held: Held, changes: Changes) -> Meeting
-        ensures { IsMade held (answers_then [] changes) result }
+        ensures { IsMadeOf held (answers_then [] changes) result }
     {
         Meeting {
             held,
@@ -64,7 +64,7 @@ impl Meeting {
     /// Takes more parts, and changes the answers in place. On an error nothing has changed. It moves the answers that come after those
     /// that go or come, and copies none.
     pub fn take(&mut self, alloc: Global, more: Held, changes: Changes) -> Result<(), AllocError>
-        ensures made { OnOk result (IsMade (together self.old.held more) (answers_then self.old.answers.items changes) self.new) }
+        ensures made { OnOk result (IsMadeOf (together self.old.held more) (answers_then self.old.answers.items changes) self.new) }
         ensures err { OnErr result (self.new ≡ self.old) }
     {
         let larger = larger(alloc, &self.answers, &changes.new)?;

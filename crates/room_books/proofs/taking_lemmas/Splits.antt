@@ -10,7 +10,7 @@ use Rattle.std.specs.List.Sorted.{IsPermutation}
 use Rattle.std.proofs.lemmas.Grind.{flat_map-append}
 use Rattle.room_books.specs.Slots.{Reordered}
 use Rattle.room_books.proofs.shared_lemmas.Reordering.{re_flat, re_permutation}
-use Rattle.room_books.specs.Gone.IsSplit.{none, goes, stays}
+use Rattle.room_books.specs.Gone.IsSplitInto.{none, goes, stays}
 use Rattle.room_books.specs.Meeting.{all_singles}
 use Rattle.itip_messages.proofs.shared_lemmas.WrittenLines.{flat_push}
 

@@ -3,7 +3,7 @@ use Rattle.std.specs.Prelude.{Option, IfSome, option_map}
 use Rattle.ical_lines.specs.Text.{line_text}
 use Rattle.profile.specs.doors.Uses.{SaysLocal}
 use Rattle.jiff_core.proofs.SignedLemmas.{signed_arith}
-use Rattle.cal_doors.specs.Used.AddsLine.{names_none, names_one}
+use Rattle.cal_doors.specs.Used.AddsUsesOf.{names_none, names_one}
 use Rattle.cal_doors.proofs.uses.add_line.Goals as goal
 
 pub returns-in_default : goal.returns-in_default

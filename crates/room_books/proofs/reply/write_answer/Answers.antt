@@ -6,4 +6,4 @@ use Rattle.room_books.proofs.reply.write_answer.Goals as goal
 
 pub returns : goal.returns
 returns c can =
-    told_line (address_octets c.args.room.now) (answers_then c.args.before.now c.args.changes.now) (part_of c.args.part.now) c.in-Some.event c.args.object.now c.write_event.new.object c.in-Some.ensures.event c.in_ok-write_event.ensures
+    told_line (address_octets c.args.room.now) (answers_then c.args.before.now c.args.changes.now) (part_of c.args.part.now) c.in-Some.event c.args.object.now c.write_event.new.object c.in-Some.ensures.event c.in_ok-write_event.ensures.ok

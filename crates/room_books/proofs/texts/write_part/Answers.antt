@@ -23,7 +23,7 @@ returns c =
     let part = part_of c.args.part.now in
     let body = c.in-Set.body.items in
     let set : part.body ≡ revisions.Set body = ap body_of c.in-Set.is in
-    let w = subst (λ b. WritesBody b c.args.zones.now c.write_body.new.zones c.write_head.new.object c.write_body.new.object) c.as_slice.ensures.value c.in_ok-write_body.ensures in
+    let w = subst (λ b. WritesBody b c.args.zones.now c.write_body.new.zones c.write_head.new.object c.write_body.new.object) c.as_slice.ensures.value c.in_ok-write_body.ensures.ok in
     shown_written room part c.args.object.now c.write_head.new.object c.write_body.new.object c.named.new.self c.named-2.new.self c.line.new.self c.in_ok-write_head.ensures body c.args.zones.now c.write_body.new.zones set w
     (c.in_ok-named.ensures.ok ∙ ap (λ l. c.write_body.new.object ++ folded (codes "ORGANIZER:" ++ l)) c.as_str.ensures)
     (c.in_ok-named-2.ensures.ok ∙ ap (λ l. c.named.new.self ++ folded (codes "ATTENDEE;PARTSTAT=ACCEPTED:" ++ l)) c.as_str-2.ensures)
