@@ -52,7 +52,7 @@ def wrong_links(documents):
 
 def works(cases, what, prefix):
     """What is installed below the prefix answers the first request, and is what is in the repository."""
-    cases.holds(f"{what}: all is there", [name for name in "share/doc/roombox/docs/GUIDE.md", "share/doc/roombox/docs/REFERENCE.md"ED if not (prefix / name).is_file()], [])
+    cases.holds(f"{what}: all is there", [name for name in NEEDED if not (prefix / name).is_file()], [])
     with open(prefix / f"{FIRST}.ics-stream", "rb") as given:
         ended = subprocess.run([prefix / "bin" / "roombox"], stdin=given, capture_output=True)
     cases.holds(f"{what}: the first request", (ended.returncode, ended.stdout), (0, (prefix / f"{FIRST}.replies").read_bytes()))
