@@ -77,7 +77,7 @@ Exit status:
   4  a device failed
   5  out of memory
 
-`roombox explain NUMBER` says what the number of a refusal means; docs/PROFILE.md lists all.";
+`roombox explain NUMBER` says what the number of a refusal means; docs/REFERENCE.md lists all.";
 
 const SERVE: &str =
     "Reads a preamble and objects, and writes the replies of rooms and what organisers send.";
@@ -97,7 +97,7 @@ have METHOD REQUEST, ADD or CANCEL; for organisers REPLY, REFRESH, or none: a me
 
 Output: the objects that are sent, and for the k-th object, where it is refused, a line
   REFUSED;OBJECT=k:n
-`roombox explain n` says what the number n means; docs/PROFILE.md lists all.
+`roombox explain n` says what the number n means; docs/REFERENCE.md lists all.
 
 Exit status: 0 done, also where objects were refused; 2 usage; 3 the preamble is refused (90),
 FILE is refused, or the input is too long; 4 a device failed; 5 out of memory.
@@ -110,7 +110,7 @@ const KEEP: &str =
 const KEEP_MORE: &str = "\
 Input: a preamble and objects, as for `roombox serve`.
 
-Output: an iCalendar object, or the lines of a certificate; docs/PROFILE.md has their form, and
+Output: an iCalendar object, or the lines of a certificate; docs/REFERENCE.md has their form, and
 lists the numbers of refusals.
 
 Exit status: 0 done, also where objects were refused; 2 usage; 3 the preamble is refused or
@@ -142,7 +142,7 @@ const CHECK_MORE: &str = "\
 Input: the two files that `roombox keep` prints. Standard input isn't read.
 
 Output: `yes`, or `no` and a number from 80 to 84; after 81 the wrong line of the certificate,
-after 83 two series. `roombox explain 82` says what 82 means; docs/PROFILE.md lists all.
+after 83 two series. `roombox explain 82` says what 82 means; docs/REFERENCE.md lists all.
 
 Exit status: 0 yes; 1 no; 2 usage; 3 a file is too long; 4 a device failed, as where a file
 isn't there; 5 out of memory.
@@ -167,7 +167,7 @@ With --ics, --from and --until it prints an iCalendar object that programs subsc
 VEVENT for each instance, all times in UTC also with --zone, and who booked it as SUMMARY.
 
 Exit status: 0 done, and with --free, --from and --until: the whole span is free; 1 with these: it
-isn't; 2 usage; 3 CALENDAR is refused: standard error has the number, which docs/PROFILE.md lists;
+isn't; 2 usage; 3 CALENDAR is refused: standard error has the number, which docs/REFERENCE.md lists;
 or it is too long; 4 a device failed, as where the file isn't there; 5 out of memory.
 
 Example: roombox agenda kept.ics mailto:r1@example.com --from 20250415T120000Z --until \
@@ -186,7 +186,7 @@ of each when in the year it begins: month, weekday from the month's start or end
   roombox expand --zone='-0500 -0400 11 1SU 0200 3 2SU 0200' < examples/whole-day.ics
 
 Exit status: 0 done; 2 usage; 3 the object is refused: standard error has the number, which
-`roombox explain` explains and docs/PROFILE.md lists; 4 a device failed; 5 out of memory.
+`roombox explain` explains and docs/REFERENCE.md lists; 4 a device failed; 5 out of memory.
 
 Example: roombox expand --limit 5 < examples/every-second-tuesday.ics";
 
@@ -201,7 +201,7 @@ and prints the number, the place where one line has the fault, and what the numb
 or what the object is:
   not refused: a REQUEST
 70 to 73 depend on what an organiser has, and 90 on the preamble: an object isn't judged by
-them. docs/PROFILE.md lists all numbers.
+them. docs/REFERENCE.md lists all numbers.
 
 Exit status: 0 explained, or not refused; 1 the object is refused; 2 usage, also where nothing
 has that number; 4 a device failed; 5 out of memory.
@@ -227,7 +227,7 @@ are made from them. On a terminal it says how many files it has read, after each
 
 Exit status: 0 done: each file is answered; 2 usage; 3 CONFIG (90) or FILE is refused, or a
 file of OUTBOX differs from the answer: standard error has its name; 4 a file or a folder can't
-be used; 5 out of memory. docs/PROFILE.md lists all numbers.
+be used; 5 out of memory. docs/REFERENCE.md lists all numbers.
 
 Example: roombox box rooms.conf inbox outbox";
 
@@ -252,7 +252,7 @@ REFUSED. All is read before anything is written. --single takes an object of sev
 
 Exit status: 0 done; 2 usage; 3 FILE or ORIGINAL is refused: standard error has the number; or one,
 or the input with --reply-to, is too long; 4 a device failed, as where a file isn't there; 5 out of
-memory. docs/PROFILE.md lists all numbers.
+memory. docs/REFERENCE.md lists all numbers.
 
 Example: roombox adapt < examples/first-request.ics-stream | roombox serve
 Example: roombox adapt --reply-to invitation.ics < answers";
