@@ -245,7 +245,7 @@ fn invoke_serve<R: Runtime + AllocGlobal>(
         }
         Err(_) => return no_memory(rt),
     };
-    say_reasons(rt, alloc, status, &input, output.kind(), None)
+    say_reasons(rt, alloc, status, &input, output.kind(), Wanted::All)
 }
 
 /// Serves, and says what came to nothing.
