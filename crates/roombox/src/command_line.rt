@@ -267,7 +267,8 @@ const ROOM_HELP: &str = "The room's address, as mailto:r1@example.com";
 
 const ORGANISER_HELP: &str = "The organiser's address, as mailto:ann@example.com";
 
-const NUMBER_HELP: &str = "The number behind REFUSED;OBJECT=k:, `refused` or `no`";
+const NUMBER_HELP: &str =
+    "The number behind REFUSED;OBJECT=k:, `refused` or `no`; or the whole line that has it";
 
 const CALENDAR_HELP: &str = "The file of the calendar, as `roombox keep` prints it";
 

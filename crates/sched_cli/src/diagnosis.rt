@@ -221,7 +221,7 @@ fn append_around(
     ensures { OnOk result (text.new.items ≡ text.old.items ++ (before.now ++ (word.now ++ behind.now))) }
 {
     text.extend_from_slice(before)?;
-    text.extend_from_slice(property)?;
+    text.extend_from_slice(word)?;
     text.extend_from_slice(behind)?;
     Ok(())
 }
