@@ -29,6 +29,8 @@ use Rattle.organiser_books.specs.Representation.{AreTexts, Keeps, RepresentsAt, 
 use Rattle.organiser_books.specs.Showing.{AreUids, ShowsLast, octets_at}
 use Rattle.organiser_books.proofs.Books.{represented_known, represented_unknown, stored_own}
 use Rattle.organiser_books.proofs.Lines.{same_is, same_itself}
+use Rattle.organiser_books.proofs.Loops.{walked}
+use Rattle.std.proofs.lemmas.Simd.{map-map}
 
 -- ---- stores
 
@@ -171,7 +173,7 @@ module _ (organiser : Organiser) (book : OrganiserBook) (keeps : Keeps organiser
       by None e = absurd (found_at_key k organiser.meetings.entries among e)
       by (Some m) e =
           let known = represented_known book (text_octets k) m (last_store (text_octets k) book)
-              (subst (λ (o : Option StoredMeeting). RepresentsAt book (text_octets k) o (last_store (text_octets k) book)) e (keeps.each k)) in
+          (subst (λ (o : Option StoredMeeting). RepresentsAt book (text_octets k) o (last_store (text_octets k) book)) e (keeps.each k)) in
           (known.0, known.1)
 
   pub last_of : (uid : List ℕ) → Contains (map text_octets keys) uid → (stored : Stored) × (last_store uid book ≡ Some stored)
@@ -185,12 +187,14 @@ module _ (organiser : Organiser) (book : OrganiserBook) (keeps : Keeps organiser
     where
       uid : Text
       uid = (keeps.texts stored among).0
+
       own : text_octets uid ≡ stored.uid
       own = (keeps.texts stored among).1
+
       by : (o : Option StoredMeeting) → get same_text organiser.meetings uid ≡ o → Contains (map text_octets keys) stored.uid
       by None e =
           let none = represented_unknown book (text_octets uid) (last_store (text_octets uid) book)
-              (subst (λ (o : Option StoredMeeting). RepresentsAt book (text_octets uid) o (last_store (text_octets uid) book)) e (keeps.each uid)) in
+          (subst (λ (o : Option StoredMeeting). RepresentsAt book (text_octets uid) o (last_store (text_octets uid) book)) e (keeps.each uid)) in
           absurd (last_is_some book.stores stored among (subst (λ (u : List ℕ). last_store u book ≡ None) own none))
       by (Some m) e =
           let (k, of_keys, same) = key_found (same_text uid) organiser.meetings.entries m e in
@@ -259,5 +263,25 @@ all_shown organiser uids are k octets w so_far book keeps = record {
 -- where no text is shown, nothing is stored
 pub shown_nothing : {V : Type 0} (items : V → List ℕ) (address : List ℕ) (book : OrganiserBook) (uid : List ℕ) (shown : Option V) (stored : Stored) → ((x : V) → shown ≡ Some x → ⊥)
     → IsShown address book uid (option_map items shown) → last_store uid book ≡ Some stored → ⊥
-shown_nothing items address book uid None stored no is last = none_some stored (sym is ∙ last)
-shown_nothing items address book uid (Some x) stored no is last = no x refl
+shown_nothing items address book uid None stored never is last = none_some stored (sym is ∙ last)
+shown_nothing items address book uid (Some x) stored never is last = never x refl
+
+-- ---- UIDs
+
+pub are_uids : (organiser : Organiser) (before now : List (Bor Text)) → map (λ (u : Bor Text). u.now) before ≡ keys_of organiser.meetings.entries → IsDistinct same_text (keys_of organiser.meetings.entries)
+    → IsPermutation before now → IsSortedByKey octets_at (slice_cmp nat_cmp) now → AreUids organiser now
+are_uids organiser before now all distinct moved up =
+    let ks = keys_of organiser.meetings.entries in
+    let octets : map octets_at before ≡ map text_octets ks = sym (map-map text_octets (λ (u : Bor Text). u.now) before) ∙ ap (map text_octets) all in
+    let same : IsPermutation (map text_octets ks) (map octets_at now) = subst (λ (l : List (List ℕ)). IsPermutation l (map octets_at now)) octets (IsPermutation-map octets_at before now moved) in
+    record { same = same; ordered = in_order ks now distinct same up }
+
+-- one key more
+pub one_more_key : (before now : List (Bor Text)) (left rest all : List Text) (uid : Bor Text) → now ≡ before ++ uid ∷ [] → left ≡ uid.now ∷ rest
+    → map (λ (u : Bor Text). u.now) before ++ left ≡ all → map (λ (u : Bor Text). u.now) now ++ rest ≡ all
+one_more_key before now left rest all uid is e h =
+    ap (λ (l : List (Bor Text)). map (λ (u : Bor Text). u.now) l ++ rest) is ∙ ap (λ (l : List Text). l ++ rest) (map-append (λ (u : Bor Text). u.now) before (uid ∷ []))
+    ∙ walked (map (λ (u : Bor Text). u.now) before) left rest all uid.now e h
+
+pub all_keys : (before : List (Bor Text)) (left all : List Text) → left ≡ [] → map (λ (u : Bor Text). u.now) before ++ left ≡ all → map (λ (u : Bor Text). u.now) before ≡ all
+all_keys before left all e h = sym (append-nil (map (λ (u : Bor Text). u.now) before)) ∙ ap (λ (l : List Text). map (λ (u : Bor Text). u.now) before ++ l) (sym e) ∙ h
