@@ -1,5 +1,5 @@
 -- All meetings of an organiser, by the octets of their UIDs.
-use Rattle.std.proofs.Common.{◌≡◌, ◌≢◌, ◌∙◌, ℕ, ℤ, zero, suc, ◌+◌, ◌<◌, ◌≤◌, Bool, true, false, cond, List, [], ◌∷◌, ◌++◌, length, map, take, get_or, Option, None, Some, Ordering, refl, sym, ap, subst, inl, inr, arith, append_assoc, append-nil}
+use Rattle.std.proofs.Common.{◌≡◌, ◌≢◌, ◌∙◌, ℕ, ℤ, zero, suc, ◌+◌, ◌<◌, ◌≤◌, Bool, true, false, cond, List, [], ◌∷◌, ◌++◌, length, map, option_map, take, get_or, Option, None, Some, Ordering, refl, sym, ap, subst, inl, inr, arith, append_assoc, append-nil}
 use denote.Ref.{Bor}
 use Rattle.std.specs.Prelude.{AllPairs, Contains, find}
 use Rattle.std.specs.List.{AllZip, AllByRecursion, IsDistinct, concat}
@@ -29,6 +29,8 @@ use Rattle.organiser_books.specs.Representation.{AreTexts, Keeps, RepresentsAt, 
 use Rattle.organiser_books.specs.Showing.{AreUids, ShowsLast, octets_at}
 use Rattle.organiser_books.proofs.Books.{represented_known, represented_unknown, stored_own}
 use Rattle.organiser_books.proofs.Lines.{same_is, same_itself}
+use Rattle.organiser_books.proofs.Loops.{walked}
+use Rattle.std.proofs.lemmas.Simd.{map-map}
 
 -- ---- stores
 
@@ -50,22 +52,23 @@ none_some a e = absurd (cc)
 -- what is found is among them
 found_among : (test : Stored → Bool) (stores : List Stored) (stored : Stored) → find test stores ≡ Some stored → Contains stores stored
 found_among test [] stored e = absurd (none_some stored e)
-found_among test (s ∷ ss) stored e = by (test s) refl e
+found_among test (s ∷ ss) stored e = by (test s) e (found_among test ss stored)
   where
-    by : (b : Bool) → test s ≡ b → cond b (Some s) (find test ss) ≡ Some stored → Contains (s ∷ ss) stored
-    by true f g = (zero, omega arith, some_is s stored g)
-    by false f g = later s stored ss (found_among test ss stored g)
+    by : (b : Bool) → cond b (Some s) (find test ss) ≡ Some stored → (find test ss ≡ Some stored → Contains ss stored) → Contains (s ∷ ss) stored
+    by true g behind = (zero, omega arith, some_is s stored g)
+    by false g behind = later s stored ss (behind g)
 
 -- a UID of one of them is found
 last_is_some : (stores : List Stored) (stored : Stored) → Contains stores stored → find (λ (s : Stored). bytes_eq s.uid stored.uid) stores ≡ None → ⊥
 last_is_some [] stored among e = none_in stored among
-last_is_some (s ∷ ss) stored among e = by (bytes_eq s.uid stored.uid) refl e
+last_is_some (s ∷ ss) stored among e = by (bytes_eq s.uid stored.uid) refl e (last_is_some ss stored)
   where
-    by : (b : Bool) → bytes_eq s.uid stored.uid ≡ b → cond b (Some s) (find (λ (x : Stored). bytes_eq x.uid stored.uid) ss) ≡ None → ⊥
-    by true f g = none_some s (sym g)
-    by false f g = elim (first_or_later s stored ss among) [
+    by : (b : Bool) → bytes_eq s.uid stored.uid ≡ b → cond b (Some s) (find (λ (x : Stored). bytes_eq x.uid stored.uid) ss) ≡ None
+        → (Contains ss stored → find (λ (x : Stored). bytes_eq x.uid stored.uid) ss ≡ None → ⊥) → ⊥
+    by true f g behind = none_some s (sym g)
+    by false f g behind = elim (first_or_later s stored ss among) [
       | inl same ↦ true≢false (sym (same_itself stored.uid) ∙ ap (λ (x : Stored). bytes_eq x.uid stored.uid) (sym same) ∙ f)
-      | inr c ↦ last_is_some ss stored c g
+      | inr c ↦ behind c g
     ]
 
 -- ---- keys
@@ -74,22 +77,23 @@ module _ {X : Type 0} where
   -- what is looked up is at a key that passes
   key_found : (test : Text → Bool) (es : List (Text × X)) (x : X) → lookup test es ≡ Some x → (key : Text) × Contains (keys_of es) key × (test key ≡ true)
   key_found test [] x e = absurd (none_some x e)
-  key_found test (entry ∷ es) x e = by (test entry.0) refl e
+  key_found test (entry ∷ es) x e = by (test entry.0) refl e (key_found test es x)
     where
-      by : (b : Bool) → test entry.0 ≡ b → cond b (Some entry.1) (lookup test es) ≡ Some x → (key : Text) × Contains (entry.0 ∷ keys_of es) key × (test key ≡ true)
-      by true f g = (entry.0, (zero, omega arith, refl), f)
-      by false f g = let (key, among, passes) = key_found test es x g in (key, later entry.0 key (keys_of es) among, passes)
+      by : (b : Bool) → test entry.0 ≡ b → cond b (Some entry.1) (lookup test es) ≡ Some x
+          → (lookup test es ≡ Some x → (key : Text) × Contains (keys_of es) key × (test key ≡ true)) → (key : Text) × Contains (entry.0 ∷ keys_of es) key × (test key ≡ true)
+      by true f g behind = (entry.0, (zero, omega arith, refl), f)
+      by false f g behind = let (key, among, passes) = behind g in (key, later entry.0 key (keys_of es) among, passes)
 
   -- at a key something is found
   found_at_key : (q : Text) (es : List (Text × X)) → Contains (keys_of es) q → lookup (same_text q) es ≡ None → ⊥
   found_at_key q [] among e = none_in q among
-  found_at_key q (entry ∷ es) among e = by (same_text q entry.0) refl e
+  found_at_key q (entry ∷ es) among e = by (same_text q entry.0) refl e (found_at_key q es)
     where
-      by : (b : Bool) → same_text q entry.0 ≡ b → cond b (Some entry.1) (lookup (same_text q) es) ≡ None → ⊥
-      by true f g = none_some entry.1 (sym g)
-      by false f g = elim (first_or_later entry.0 q (keys_of es) among) [
+      by : (b : Bool) → same_text q entry.0 ≡ b → cond b (Some entry.1) (lookup (same_text q) es) ≡ None → (Contains (keys_of es) q → lookup (same_text q) es ≡ None → ⊥) → ⊥
+      by true f g behind = none_some entry.1 (sym g)
+      by false f g behind = elim (first_or_later entry.0 q (keys_of es) among) [
         | inl same ↦ true≢false (sym (same_itself (text_octets q)) ∙ ap (λ (t : Text). bytes_eq (text_octets q) (text_octets t)) (sym same) ∙ f)
-        | inr c ↦ found_at_key q es c g
+        | inr c ↦ behind c g
       ]
 
 octets_among : (ks : List Text) (k : Text) → Contains ks k → Contains (map text_octets ks) (text_octets k)
@@ -169,7 +173,7 @@ module _ (organiser : Organiser) (book : OrganiserBook) (keeps : Keeps organiser
       by None e = absurd (found_at_key k organiser.meetings.entries among e)
       by (Some m) e =
           let known = represented_known book (text_octets k) m (last_store (text_octets k) book)
-              (subst (λ (o : Option StoredMeeting). RepresentsAt book (text_octets k) o (last_store (text_octets k) book)) e (keeps.each k)) in
+          (subst (λ (o : Option StoredMeeting). RepresentsAt book (text_octets k) o (last_store (text_octets k) book)) e (keeps.each k)) in
           (known.0, known.1)
 
   pub last_of : (uid : List ℕ) → Contains (map text_octets keys) uid → (stored : Stored) × (last_store uid book ≡ Some stored)
@@ -183,12 +187,14 @@ module _ (organiser : Organiser) (book : OrganiserBook) (keeps : Keeps organiser
     where
       uid : Text
       uid = (keeps.texts stored among).0
+
       own : text_octets uid ≡ stored.uid
       own = (keeps.texts stored among).1
+
       by : (o : Option StoredMeeting) → get same_text organiser.meetings uid ≡ o → Contains (map text_octets keys) stored.uid
       by None e =
           let none = represented_unknown book (text_octets uid) (last_store (text_octets uid) book)
-              (subst (λ (o : Option StoredMeeting). RepresentsAt book (text_octets uid) o (last_store (text_octets uid) book)) e (keeps.each uid)) in
+          (subst (λ (o : Option StoredMeeting). RepresentsAt book (text_octets uid) o (last_store (text_octets uid) book)) e (keeps.each uid)) in
           absurd (last_is_some book.stores stored among (subst (λ (u : List ℕ). last_store u book ≡ None) own none))
       by (Some m) e =
           let (k, of_keys, same) = key_found (same_text uid) organiser.meetings.entries m e in
@@ -251,3 +257,31 @@ all_shown organiser uids are k octets w so_far book keeps = record {
   each = subst (λ (l : List (Bor Text)). AllZip (λ uid text. IsShown (address_of organiser) book uid (Some text)) (map octets_at l) so_far.texts) (take_all k uids w) (so_far.each book keeps);
   is = so_far.is;
 }
+
+-- ---- one text
+
+-- where no text is shown, nothing is stored
+pub shown_nothing : {V : Type 0} (items : V → List ℕ) (address : List ℕ) (book : OrganiserBook) (uid : List ℕ) (shown : Option V) (stored : Stored) → ((x : V) → shown ≡ Some x → ⊥)
+    → IsShown address book uid (option_map items shown) → last_store uid book ≡ Some stored → ⊥
+shown_nothing items address book uid None stored never is last = none_some stored (sym is ∙ last)
+shown_nothing items address book uid (Some x) stored never is last = never x refl
+
+-- ---- UIDs
+
+pub are_uids : (organiser : Organiser) (before now : List (Bor Text)) → map (λ (u : Bor Text). u.now) before ≡ keys_of organiser.meetings.entries → IsDistinct same_text (keys_of organiser.meetings.entries)
+    → IsPermutation before now → IsSortedByKey octets_at (slice_cmp nat_cmp) now → AreUids organiser now
+are_uids organiser before now all distinct moved up =
+    let ks = keys_of organiser.meetings.entries in
+    let octets : map octets_at before ≡ map text_octets ks = sym (map-map text_octets (λ (u : Bor Text). u.now) before) ∙ ap (map text_octets) all in
+    let same : IsPermutation (map text_octets ks) (map octets_at now) = subst (λ (l : List (List ℕ)). IsPermutation l (map octets_at now)) octets (IsPermutation-map octets_at before now moved) in
+    record { same = same; ordered = in_order ks now distinct same up }
+
+-- one key more
+pub one_more_key : (before now : List (Bor Text)) (left rest all : List Text) (uid : Bor Text) → now ≡ before ++ uid ∷ [] → left ≡ uid.now ∷ rest
+    → map (λ (u : Bor Text). u.now) before ++ left ≡ all → map (λ (u : Bor Text). u.now) now ++ rest ≡ all
+one_more_key before now left rest all uid is e h =
+    ap (λ (l : List (Bor Text)). map (λ (u : Bor Text). u.now) l ++ rest) is ∙ ap (λ (l : List Text). l ++ rest) (map-append (λ (u : Bor Text). u.now) before (uid ∷ []))
+    ∙ walked (map (λ (u : Bor Text). u.now) before) left rest all uid.now e h
+
+pub all_keys : (before : List (Bor Text)) (left all : List Text) → left ≡ [] → map (λ (u : Bor Text). u.now) before ++ left ≡ all → map (λ (u : Bor Text). u.now) before ≡ all
+all_keys before left all e h = sym (append-nil (map (λ (u : Bor Text). u.now) before)) ∙ ap (λ (l : List Text). map (λ (u : Bor Text). u.now) before ++ l) (sym e) ∙ h

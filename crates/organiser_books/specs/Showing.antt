@@ -1,4 +1,5 @@
 -- The UIDs of an organiser's meetings, in order.
+use Rattle.std.specs.Borrow.{Bor}
 use Rattle.std.specs.Prelude.{◌≡◌, ℕ, List, map, AllPairs, Contains, Option, Some}
 use Rattle.std.specs.List.{AllZip, concat}
 use Rattle.std.specs.List.Sorted.{IsPermutation}

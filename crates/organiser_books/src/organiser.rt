@@ -209,7 +209,10 @@ impl Organiser {
     fn uids(&self) -> Result<Vec<&Text>, AllocError>
         ensures { IfOk result (λ uids. AreUids self.now uids.items) }
     {
-        let mut uids = self.meetings.keys().collect(self.alloc)?;
+        let mut uids = Vec::new(self.alloc);
+        for uid in self.meetings.keys() {
+            uids.push(uid)?;
+        }
         sort(&mut uids);
         Ok(uids)
     }
