@@ -10,4 +10,4 @@ loop-uid-preserved c =
 pub returns : goal.returns
 returns c =
     are_uids c.args.self.now c.loop-uid.uids.items c.sort.new.uids.items
-    (all_keys c.loop-uid.uids.items c.loop-uid.uid-iterator (keys_of c.args.self.now.meetings.entries) c.in-None.ensures.steps.0 c.loop-uid.invariant) c.keys.ensures.unique c.sort.ensures.same c.sort.ensures.rises
+    (all_keys c.loop-uid.uids.items c.loop-uid.uid-iterator (keys_of c.args.self.now.meetings.entries) c.in-None.ensures.steps.0 c.loop-uid.invariant) c.keys-uid-items.ensures.unique c.sort.ensures.same c.sort.ensures.rises
