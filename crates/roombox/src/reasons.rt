@@ -42,6 +42,8 @@ impl<R: Read + Drop> Read for WatchedReader<R> {
     fn read(&mut self, buffer: &mut [u8]) -> io::Result<usize> {
         match self.device.read(buffer) {
             Ok(count) => {
+                // an interrupted call that was tried again is no failure
+                self.kind = None;
                 let room = (LONGEST + 1).saturating_sub(self.front.len());
                 // there is room for it
                 let _ = self.front.extend_from_slice(&buffer[..count.min(room)]);
@@ -75,7 +77,10 @@ impl<W: Write + Drop> WatchedWriter<W> {
 impl<W: Write + Drop> Write for WatchedWriter<W> {
     fn write(&mut self, octets: &[u8]) -> io::Result<usize> {
         match self.device.write(octets) {
-            Ok(count) => Ok(count),
+            Ok(count) => {
+                self.kind = None;
+                Ok(count)
+            }
             Err(error) => {
                 self.kind = Some(error.kind());
                 Err(error)
