@@ -14,7 +14,7 @@ COMPLETION = $(BELOW)/share/bash-completion/completions/roombox
 DOCUMENTS = $(BELOW)/share/doc/roombox
 DOCUMENT_FILES := README.md CHANGELOG.md $(wildcard docs/*.* docs/*/*.* examples/*.* examples/*/*.*)
 
-.PHONY: try run test attack bench fuzz man layout install uninstall deb clean
+.PHONY: try run test attack bench fuzz man layout tables install uninstall deb clean
 
 # Answers the first request in about 1 minute. Nothing is proved this way.
 try:
@@ -37,6 +37,11 @@ FORCE:
 # The whole gate: every proof from nothing, the edits that must fail, the tests and the programs.
 test:
 	$(RT) ci
+
+# The tables of the documents that scripts make from the sources; with CHECK=--check they are only compared. Then how many lines people wrote.
+tables:
+	@status=0; for script in crates_table crates_picture attacks_table contracts_table definitions_tables vocabulary premises gate_figures user_tables; do \
+		[ ! -f bench/$$script.py ] || python3 bench/$$script.py $(CHECK) || status=1; done; python3 bench/document_lines.py || status=1; exit $$status
 
 # Lays out each crate as the gate wants it: a file that isn't stops its crate and all above it.
 layout:
