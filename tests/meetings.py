@@ -2,7 +2,7 @@
 
     python3 tests/meetings.py bin/roombox
 
-Each case has its input, a status and what standard output has to be, written by hand from docs/PROFILE.md and RFC 6638 (3.2.9, 4.2, 7.3).
+Each case has its input, a status and what standard output has to be, written by hand from docs/REFERENCE.md and RFC 6638 (3.2.9, 4.2, 7.3).
 """
 
 import subprocess

@@ -131,7 +131,7 @@ was sent a message. Nothing where none is stored.
 
 Exit status: 0 done, also where objects were refused; 2 usage; 3 the preamble is refused or
 doesn't name ORGANISER (90), FILE is refused, or the input is too long; 4 a device failed; 5 out
-of memory. docs/PROFILE.md lists the numbers.
+of memory. docs/REFERENCE.md lists the numbers.
 
 Example: roombox meetings mailto:ann@example.com < examples/organiser-conversation.ics-stream";
 
