@@ -3,7 +3,7 @@ full and after a file had vanished.
 
     python3 tests/box.py bin/roombox [FOLDER]
 
-What is expected was written by hand from the rules in docs/PROFILE.md, and never from the program's output; a run that was killed is compared with one
+What is expected was written by hand from the rules in docs/GUIDE.md and docs/OPERATING.md, and never from the program's output; a run that was killed is compared with one
 that wasn't. FOLDER is where the folders of the tests are made, on the disk that is to be tried; where none is given, it is the system's for temporary
 files. A test that needs another user, a mount or strace says so and is left out where there is none. It prints each case that fails, and ends with 1
 where one did. Most of its time is that of the disk: 20,000 answers, each synced before it gets its name and after it.

@@ -3,7 +3,7 @@
     python3 tests/failing_devices.py bin/roombox
 
 The calls are made to fail by a small shim over the C library's read and write, built by gcc in a temporary folder. What has to come out is said in
-docs/PROFILE.md: status 4 and `roombox: device`. After a read that fails, the answers to the objects of which the octet behind their end was read, whole;
+docs/REFERENCE.md: status 4 and `roombox: device`. After a read that fails, the answers to the objects of which the octet behind their end was read, whole;
 after a write that fails, all octets before it. The stream has a decline, a cancellation, a repeat and a revision. `keep`, `expand` and `explain` answer
 nothing after a read that fails, nor does the door before an object has ended. It prints each case that fails, and ends with 1 where one did.
 """

@@ -1,4 +1,4 @@
-"""Tries the statements of docs/PROFILE.md with the program.
+"""Tries the statements of docs/GUIDE.md and docs/REFERENCE.md with the program, and the links of all documents.
 
     python3 tests/guide.py bin/roombox
 
@@ -6,6 +6,7 @@ Each case says what the guide says, what goes in, and what has to come out; what
 the program's output. It prints each case that fails, and ends with 1 where one did.
 """
 
+import re
 import shutil
 import subprocess
 import sys
@@ -356,7 +357,7 @@ def dated(uid="a", date="20250310", lines=(), sequence=0, slot=None, method="REQ
 
 
 def whole_days(cases, program):
-    """The section "Whole days and times without zone": rooms, which go by UTC."""
+    """The section "Forms of time" of the reference: rooms, which go by UTC."""
     def tried(what, wanted, *objects):
         cases.holds(what, answers(program, *objects), wanted)
 
@@ -598,19 +599,19 @@ def kept_series(cases, program):
     cases.holds("version 2 without a group", judged(beside.replace("ROOMCERT 1", "ROOMCERT 2").replace("1 2 RES 86400", "1 2 SPAN 20250313T000000Z 1"), recurring(), before), "yes\n")
 
 
-def numbers_of_guide():
-    """The numbers in the tables of docs/PROFILE.md, of refusals and of the checker's no."""
-    text = (ROOT / "docs" / "PROFILE.md").read_text(encoding="utf-8")
-    rows = [line.split("|")[1] for line in text.splitlines() if line.startswith("| ") and line.count("|") == 4]
-    return {int(word) for row in rows for word in row.replace(" and a number", "").replace(" and two numbers", "").replace(",", " ").split() if word.isdigit()}
+def numbers_of_reference():
+    """Of each number in the table of docs/REFERENCE.md what `explain` has to print."""
+    table = (ROOT / "docs" / "REFERENCE.md").read_text(encoding="utf-8").partition("<!-- table: bench/user_tables.py refusals -->")[2].partition("<!-- end of table -->")[0]
+    rows = [[cell.strip() for cell in line.split("|")[1:-1]] for line in table.splitlines() if line[:3].strip("| ").isdigit()]
+    return {int(number): f"{number}: {meaning}. What to do: {advice}.\n" for number, meaning, advice in rows}
 
 
 def explained(cases, program):
-    known = numbers_of_guide()
-    cases.holds("the numbers of the guide are explained", {n for n in range(256) if run(program, "explain", str(n))[0] == 0}, known)
-    cases.holds("a line for each begins with its number", [n for n in sorted(known) if not run(program, "explain", str(n))[1].startswith(f"{n}: ")], [])
-    cases.holds("another number is a usage fault", run(program, "explain", "45")[:2], (2, ""))
-    cases.holds("so is one that is gone", run(program, "explain", "55")[:2], (2, ""))
+    found = {number: run(program, "explain", str(number)) for number in range(256)}
+    cases.holds("the table of numbers is what is explained", {number: text for number, (status, text, _) in found.items() if status == 0}, numbers_of_reference())
+    cases.holds("the first and the last of each kind are among them", [number for number in (1, 6, 10, 16, 20, 25, 30, 34, 40, 44, 50, 57, 60, 67, 70, 73, 80, 84, 90) if number not in numbers_of_reference()], [])
+    cases.holds("another number is a usage fault", found[45][:2], (2, ""))
+    cases.holds("so is one that is gone", found[55][:2], (2, ""))
     cases.holds("so is a word", run(program, "explain", "no")[:2], (2, ""))
     for pasted in ["REFUSED;OBJECT=3:43", "REFUSED;OBJECT=3:43\r", "roombox: refused 43", " 43 "]:
         cases.holds(f"a pasted line: {pasted!r}", run(program, "explain", pasted), run(program, "explain", "43"))
@@ -732,7 +733,7 @@ def explained_objects(cases, program):
         said = run(program, "explain", given=changed(changes))[1].partition("\n")[0]
         cases.holds(f"explain never names a wrong line: {what} ({said})", said in (f"refused {wanted}", f"refused {wanted.partition(' ')[0]}"), True)
     if shutil.which("awk"):
-        recipe = next(line for line in (ROOT / "docs" / "PROFILE.md").read_text(encoding="utf-8").splitlines() if line.startswith("    awk "))
+        recipe = next(line for line in (ROOT / "docs" / "GUIDE.md").read_text(encoding="utf-8").splitlines() if line.startswith("    awk "))
         stream = (PREAMBLE + changed({}) + "\r\n" + changed({5: "UID:b"}) + changed({9: "DTSTART;TZID=Z:20250310T090000"}) + changed({5: ""})).encode()
         cut = subprocess.run(["sh", "-c", recipe.partition(" stream |")[0]], input=stream, capture_output=True).stdout
         cases.holds("the recipe that cuts out the third object", cut.decode(), changed({9: "DTSTART;TZID=Z:20250310T090000"}))
@@ -796,7 +797,7 @@ def command_line(cases, program):
     cases.holds("the statuses of the help", [int(number) for number, _ in top.statuses()], [0, 1, 2, 3, 4, 5])
     for name, help in commands.items():
         text = "\n".join(line for lines in help.paragraphs for line in lines)
-        cases.holds(f"the help of {name} says its statuses, where the numbers are, and an example", [part in text for part in ("Exit status: 0 ", "docs/PROFILE.md", "Example: roombox ")], [True] * 3)
+        cases.holds(f"the help of {name} says its statuses, where the numbers are, and an example", [part in text for part in ("Exit status: 0 ", "docs/REFERENCE.md", "Example: roombox ")], [True] * 3)
     cases.holds("the man page is made from the help (make man)", (ROOT / "docs" / "roombox.1").read_text(encoding="utf-8"), man_page.man_page(program))
     script = ROOT / "docs" / "roombox.bash"
     cases.holds("so is the completion", script.read_text(encoding="utf-8"), man_page.completion(program))
@@ -812,7 +813,7 @@ def command_line(cases, program):
 
 def logged(cases, program):
     # what came on each day, the first file without a line break at its end; the guide's own line appends it to the log
-    recipe = next(line.strip() for line in (ROOT / "docs" / "PROFILE.md").read_text().splitlines() if line.endswith(">> log"))
+    recipe = next(line.strip() for line in (ROOT / "docs" / "GUIDE.md").read_text(encoding="utf-8").splitlines() if line.endswith(">> log"))
     days = [
         {"1.ics": request().removesuffix("\r\n")},
         {"1.ics": request("b", start="20250310T093000Z", lines=("DURATION:PT1H",)), "2.ics": request("c", start="20250310T120000Z", lines=("DURATION:PT1H",)).removesuffix("\n")},
@@ -907,9 +908,33 @@ def organisers(cases, program):
         "ATTENDEE;PARTSTAT=NEEDS-ACTION;RSVP=TRUE:mailto:r1@example.com", "END:VEVENT", "END:VCALENDAR", ""])
 
 
+def anchors_of(text):
+    """The names by which a page's headings are linked to: in lower case, without punctuation, a hyphen for each space."""
+    headings = re.findall(r"^#+ (.*)$", re.sub(r"^```.*?^```", "", text, flags=re.DOTALL | re.MULTILINE), re.MULTILINE)
+    return [re.sub(r"[^\w\- ]", "", it.lower()).replace(" ", "-") for it in headings]
+
+
+def documents(cases, program):
+    """The links of the documents, the reply that README shows, and the tables that scripts write for users."""
+    pages = [ROOT / "README.md", ROOT / "CHANGELOG.md", *sorted((ROOT / "docs").glob("*.md")), *sorted((ROOT / "examples").glob("*/README.md"))]
+    texts = {page: page.read_text(encoding="utf-8") for page in pages}
+    for page, text in texts.items():
+        links = [it.partition("#") for it in re.findall(r"\]\(([^)\s]+)\)", text) if "://" not in it]
+        aims = [((page.parent / name).resolve() if name else page, anchor) for name, _, anchor in links]
+        cases.holds(f"what {page.relative_to(ROOT)} links to is there", sorted(str(aim) for aim, _ in aims if not aim.exists()), [])
+        cases.holds(f"the anchors that {page.relative_to(ROOT)} links to are there", sorted(f"{aim.name}#{anchor}" for aim, anchor in aims if anchor and anchor not in anchors_of(texts.get(aim, ""))), [])
+        cases.holds(f"no two headings of {page.relative_to(ROOT)} are one anchor", sorted({it for it in anchors_of(text) if anchors_of(text).count(it) > 1}), [])
+    first = texts[ROOT / "README.md"].splitlines()[:40]
+    shown = [line.strip() for line in first if line.startswith("    ") and not line.strip().startswith(("$", "make"))]
+    replied = iter((ROOT / "examples" / "first-request.replies").read_text(encoding="utf-8").splitlines())
+    cases.holds("the first screen of README shows the first reply, in its order", ("METHOD:REPLY" in shown, [line for line in shown if line != ".." and line not in replied]), (True, []))
+    made = subprocess.run([sys.executable, ROOT / "bench" / "user_tables.py", "--check"], capture_output=True, text=True)
+    cases.holds("the tables for users are made from their sources (bench/user_tables.py)", (made.returncode, made.stderr), (0, ""))
+
+
 def main():
     program, cases = str(Path(sys.argv[1]).resolve()), Cases()
-    for part in (preambles, decisions, instances, added, replies, refusals, kept, zones, times_in_zones, whole_days, rooms_in_zones, rooms_of_a_zone, series, kept_series, organisers, explained, explained_objects, reported, command_line, logged, examples):
+    for part in (preambles, decisions, instances, added, replies, refusals, kept, zones, times_in_zones, whole_days, rooms_in_zones, rooms_of_a_zone, series, kept_series, organisers, explained, explained_objects, reported, command_line, logged, examples, documents):
         part(cases, program)
     print(f"{cases.count} cases, {cases.failed} failed")
     return 1 if cases.failed else 0

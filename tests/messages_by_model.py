@@ -1,4 +1,4 @@
-"""Random streams of messages, answered by the program and by a small model that was written from docs/PROFILE.md alone.
+"""Random streams of messages, answered by the program and by a small model that was written from docs/GUIDE.md and docs/REFERENCE.md alone.
 
     python3 tests/messages_by_model.py bin/roombox [--streams 300] [--seed 1]
     python3 tests/messages_by_model.py --cases FOLDER [--streams 300]     # writes the runs as cases, for `rt try --cases FOLDER`

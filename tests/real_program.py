@@ -2,7 +2,7 @@
 
     python3 tests/real_program.py bin/roombox
 
-What has to come out is said in docs/PROFILE.md: status 4 and `roombox: device` where a device failed, and so on. Ends with 1 where something
+What has to come out is said in docs/REFERENCE.md: status 4 and `roombox: device` where a device failed, and so on. Ends with 1 where something
 else came out.
 """
 

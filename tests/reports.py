@@ -2,7 +2,7 @@
 
     python3 tests/reports.py bin/roombox
 
-What is expected is written by hand from docs/PROFILE.md and from what the system calls its errors. tests/guide.py has the reports of a stream, and
+What is expected is written by hand from docs/REFERENCE.md and from what the system calls its errors. tests/guide.py has the reports of a stream, and
 what is said of a preamble. It prints each case that fails, and ends with 1 where one did.
 """
 

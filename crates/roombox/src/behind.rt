@@ -3,14 +3,14 @@
 use crate::host::{
     ErrorPrinter, Folders, INPUT, answer_files, no_memory, read_file, read_input, report_file,
 };
-use crate::reasons::{WatchedReader, WatchedWriter, say_output, say_reasons};
+use crate::reasons::{Wanted, WatchedReader, WatchedWriter, say_output, say_reasons};
 use ical_lines::{Fault, Limits, Unfolded};
 use ical_tree::{Component, read_object};
 use ical_values::Address;
 use sched_box::{DeviceReader, DeviceWriter, Input, Output};
 use sched_cli::commands::{KeptText, run_keep, run_serve};
 use sched_cli::status::{DEVICE, DONE, REFUSED, report_read};
-use sched_cli::{Log, Tally, WayBack, run_adapt, run_returned, run_serve_report};
+use sched_cli::{Log, Tally, WayBack, run_adapt, run_meetings, run_returned, run_serve_report};
 use sched_devices::DiskFolder;
 use sched_doors::{AdaptedInbox, Door};
 use std::alloc::Global;
@@ -43,6 +43,7 @@ pub(crate) enum StreamWork<'a> {
     Adapt { report: bool },
     Serve { report: bool },
     Keep { room: &'a Address, kept: KeptText },
+    Meetings { organiser: &'a Address },
 }
 
 /// Does some work behind a door, with the VTIMEZONEs of a file for it, if one is given. Where that can't be read, nothing else is.
@@ -135,21 +136,24 @@ fn run_stream<R: Runtime + AllocGlobal>(
         }
         Err(_) => return no_memory(rt),
     };
-    let room = match work {
-        StreamWork::Keep { room, kept: _ } => Some(room),
-        StreamWork::Adapt { report: _ } | StreamWork::Serve { report: _ } => None,
+    let wanted = match work {
+        StreamWork::Keep { room, kept: _ } => Wanted::Room(room),
+        StreamWork::Meetings { organiser } => Wanted::Organiser(organiser),
+        StreamWork::Adapt { report: _ } | StreamWork::Serve { report: _ } => Wanted::All,
     };
     if status == REFUSED && is_adapt(work) {
         return status;
     }
-    say_reasons(rt, alloc, status, &input, output.kind(), room)
+    say_reasons(rt, alloc, status, &input, output.kind(), wanted)
 }
 
 /// Whether the stream has no preamble that is read.
 fn is_adapt(work: StreamWork<'_>) -> bool {
     match work {
         StreamWork::Adapt { report: _ } => true,
-        StreamWork::Serve { report: _ } | StreamWork::Keep { room: _, kept: _ } => false,
+        StreamWork::Serve { report: _ }
+        | StreamWork::Keep { room: _, kept: _ }
+        | StreamWork::Meetings { organiser: _ } => false,
     }
 }
 
@@ -169,6 +173,9 @@ fn work_behind<R: Runtime + AllocGlobal, I: Input + Drop, W: Output + Drop>(
         }
         StreamWork::Serve { report } => serve_behind(rt, alloc, door, writer, report),
         StreamWork::Keep { room, kept } => keep_behind(rt, alloc, door, &mut writer, room, kept),
+        StreamWork::Meetings { organiser } => {
+            show_behind(rt, alloc, door, &mut writer, organiser)
+        }
     }
 }
 
@@ -204,6 +211,20 @@ fn keep_behind<R: Runtime + AllocGlobal, I: Input + Drop, W: Output>(
         return no_memory(rt);
     };
     let status = run_keep(alloc, room, kept, door, writer, &mut said);
+    say_at_end(rt, door, said.as_slice(), status)
+}
+
+fn show_behind<R: Runtime + AllocGlobal, I: Input + Drop, W: Output>(
+    rt: &R,
+    alloc: Global,
+    door: &mut Door<'_, '_, I>,
+    writer: &mut W,
+    organiser: &Address,
+) -> u8 {
+    let Ok(mut said) = Vec::with_capacity(alloc, SAID) else {
+        return no_memory(rt);
+    };
+    let status = run_meetings(alloc, organiser, door, writer, &mut said);
     say_at_end(rt, door, said.as_slice(), status)
 }
 

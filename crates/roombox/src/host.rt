@@ -5,7 +5,7 @@ use crate::behind::{Answers, StreamWork, Work, read_whole, run_behind};
 use crate::command_line::{BadWord, Invocation, Reading, fault_of, read_words};
 use crate::progress::Progress;
 use crate::reasons::{
-    WatchedReader, WatchedWriter, say_configuration, say_device, say_folder, say_output,
+    Wanted, WatchedReader, WatchedWriter, say_configuration, say_device, say_folder, say_output,
     say_reasons,
 };
 use cal_zones::RoomZone;
@@ -17,7 +17,7 @@ use sched_cli::commands::{KeptText, run_check, run_keep, run_serve};
 use sched_cli::status::{USAGE, report_device, report_memory, report_read, report_too_long};
 use sched_cli::{
     Log, Tally, run_expand, run_explain, run_explain_object, run_folders, run_folders_report,
-    run_serve_report,
+    run_meetings, run_serve_report,
 };
 use sched_devices::{DiskFolder, Folder};
 use std::alloc::Global;
@@ -130,6 +130,12 @@ fn invoke<R: Runtime + AllocGlobal>(
             Ok(room) => invoke_keep(rt, alloc, &room, kept, reading),
             Err(status) => status,
         },
+        Invocation::Meetings { organiser, reading } => {
+            match read_organiser(rt, alloc, organiser) {
+                Ok(organiser) => invoke_meetings(rt, alloc, &organiser, reading),
+                Err(status) => status,
+            }
+        }
         Invocation::Adapt { report, zones } => {
             run_behind(rt, alloc, zones, Work::Stream(StreamWork::Adapt { report }))
         }
@@ -188,8 +194,25 @@ pub(crate) fn read_room<R: Runtime + AllocGlobal>(
     }
 }
 
+/// The organiser that a word names; else the status of a usage fault.
+fn read_organiser<R: Runtime + AllocGlobal>(
+    rt: &R,
+    alloc: Global,
+    word: &str,
+) -> Result<Address, u8> {
+    match Address::read(alloc, word) {
+        Ok(organiser) => Ok(organiser),
+        Err(Fault::Memory) => Err(no_memory(rt)),
+        Err(Fault::Refused(_)) => Err(refuse_word(rt, alloc, BadWord::Organiser(word))),
+    }
+}
+
 /// The zone that words mean; else the status of a usage fault.
-fn read_zone<R: Runtime + AllocGlobal>(rt: &R, alloc: Global, words: &str) -> Result<RoomZone, u8> {
+pub(crate) fn read_zone<R: Runtime + AllocGlobal>(
+    rt: &R,
+    alloc: Global,
+    words: &str,
+) -> Result<RoomZone, u8> {
     match RoomZone::read(alloc, words) {
         Ok(zone) => Ok(zone),
         Err(Fault::Memory) => Err(no_memory(rt)),
@@ -222,7 +245,7 @@ fn invoke_serve<R: Runtime + AllocGlobal>(
         }
         Err(_) => return no_memory(rt),
     };
-    say_reasons(rt, alloc, status, &input, output.kind(), None)
+    say_reasons(rt, alloc, status, &input, output.kind(), Wanted::All)
 }
 
 /// Serves, and says what came to nothing.
@@ -270,7 +293,43 @@ fn invoke_keep<R: Runtime + AllocGlobal>(
         }
         Err(_) => return no_memory(rt),
     };
-    say_reasons(rt, alloc, status, &input, output.kind(), Some(room))
+    say_reasons(rt, alloc, status, &input, output.kind(), Wanted::Room(room))
+}
+
+fn invoke_meetings<R: Runtime + AllocGlobal>(
+    rt: &R,
+    alloc: Global,
+    organiser: &Address,
+    reading: Reading<'_>,
+) -> u8 {
+    if let Reading::Adapted(zones) = reading {
+        return run_behind(
+            rt,
+            alloc,
+            zones,
+            Work::Stream(StreamWork::Meetings { organiser }),
+        );
+    }
+    let Ok(mut input) = WatchedReader::new(alloc, rt.reader()) else {
+        return no_memory(rt);
+    };
+    let mut output = WatchedWriter::new(io::writer(rt));
+    let status = match DeviceReader::new(alloc, &mut input) {
+        Ok(mut reader) => {
+            let mut errors = DeviceWriter::new(ErrorPrinter { to: rt });
+            let mut writer = DeviceWriter::new(&mut output);
+            run_meetings(alloc, organiser, &mut reader, &mut writer, &mut errors)
+        }
+        Err(_) => return no_memory(rt),
+    };
+    say_reasons(
+        rt,
+        alloc,
+        status,
+        &input,
+        output.kind(),
+        Wanted::Organiser(organiser),
+    )
 }
 
 /// Hands on answers to the object of a file, which has to be one.

@@ -42,6 +42,8 @@ impl<R: Read + Drop> Read for WatchedReader<R> {
     fn read(&mut self, buffer: &mut [u8]) -> io::Result<usize> {
         match self.device.read(buffer) {
             Ok(count) => {
+                // an interrupted call that was tried again is no failure
+                self.kind = None;
                 let room = (LONGEST + 1).saturating_sub(self.front.len());
                 // there is room for it
                 let _ = self.front.extend_from_slice(&buffer[..count.min(room)]);
@@ -75,7 +77,10 @@ impl<W: Write + Drop> WatchedWriter<W> {
 impl<W: Write + Drop> Write for WatchedWriter<W> {
     fn write(&mut self, octets: &[u8]) -> io::Result<usize> {
         match self.device.write(octets) {
-            Ok(count) => Ok(count),
+            Ok(count) => {
+                self.kind = None;
+                Ok(count)
+            }
             Err(error) => {
                 self.kind = Some(error.kind());
                 Err(error)
@@ -153,7 +158,7 @@ pub(crate) fn say_reasons<R: Runtime + AllocGlobal, D: Read + Drop>(
     status: u8,
     input: &WatchedReader<D>,
     output: Option<ErrorKind>,
-    room: Option<&Address>,
+    wanted: Wanted<'_>,
 ) -> u8 {
     if status == DEVICE {
         if let Some(kind) = input.kind() {
@@ -161,11 +166,19 @@ pub(crate) fn say_reasons<R: Runtime + AllocGlobal, D: Read + Drop>(
         }
     }
     if status == REFUSED {
-        if let Ok(line) = refused_line(alloc, input.front(), Front::Stream, room) {
+        if let Ok(line) = refused_line(alloc, input.front(), Front::Stream, wanted) {
             let _ = DeviceWriter::new(ErrorPrinter { to: rt }).put(line.as_slice());
         }
     }
     say_output(rt, alloc, status, output)
+}
+
+/// Whom of its preamble a command is about.
+#[derive(Clone, Copy)]
+pub(crate) enum Wanted<'a> {
+    All,
+    Room(&'a Address),
+    Organiser(&'a Address),
 }
 
 /// Says of a configuration that is refused why, behind the end of `box`. Gives the status.
@@ -176,35 +189,53 @@ pub(crate) fn say_configuration<R: Runtime + AllocGlobal>(
     octets: &[u8],
 ) -> u8 {
     if status == REFUSED {
-        if let Ok(line) = refused_line(alloc, octets, Front::Configuration, None) {
+        if let Ok(line) = refused_line(alloc, octets, Front::Configuration, Wanted::All) {
             let _ = DeviceWriter::new(ErrorPrinter { to: rt }).put(line.as_slice());
         }
     }
     status
 }
 
-/// What of the front of a stream, or of a configuration, can't be read; else that it doesn't name the room; nothing where it does.
+/// What of the front of a stream, or of a configuration, can't be read; else that it doesn't name who is wanted; nothing where it does.
 fn refused_line(
     alloc: Global,
     octets: &[u8],
     front: Front,
-    room: Option<&Address>,
+    wanted: Wanted<'_>,
 ) -> Result<Vec<u8>, AllocError> {
     let mut line = Vec::new(alloc);
     append_preamble_fault(alloc, &mut line, octets, front)?;
     if !line.is_empty() {
         return Ok(line);
     }
-    if let Some(room) = room {
-        if let Ok((config, _)) = Config::read_with_now(alloc, preamble_in(octets)) {
-            if !config.has_room(room) {
-                line.extend_from_slice(b"roombox: the preamble doesn't name the room ")?;
-                append_name(&mut line, room.as_str())?;
-                line.extend_from_slice(b"\n")?;
-            }
-        }
+    if let Ok((config, _)) = Config::read_with_now(alloc, preamble_in(octets)) {
+        append_unnamed(&mut line, &config, wanted)?;
     }
     Ok(line)
+}
+
+/// Appends that a preamble doesn't name who is wanted, if it doesn't.
+fn append_unnamed(
+    line: &mut Vec<u8>,
+    config: &Config,
+    wanted: Wanted<'_>,
+) -> Result<(), AllocError> {
+    let (is_named, who, address) = match wanted {
+        Wanted::All => return Ok(()),
+        Wanted::Room(room) => (config.has_room(room), "room", room),
+        Wanted::Organiser(organiser) => {
+            (config.has_organiser(organiser), "organiser", organiser)
+        }
+    };
+    if is_named {
+        return Ok(());
+    }
+    line.extend_from_slice(b"roombox: the preamble doesn't name the ")?;
+    line.extend_from_slice(who.as_bytes())?;
+    line.extend_from_slice(b" ")?;
+    append_name(line, address.as_str())?;
+    line.extend_from_slice(b"\n")?;
+    Ok(())
 }
 
 /// Says why a folder of this path can't be listed, if it can't. Gives the status.

@@ -112,6 +112,13 @@ impl Config {
         self.zone(room).is_some()
     }
 
+    /// Whether the box hosts an organiser of this address.
+    pub fn has_organiser(&self, organiser: &Address) -> bool
+        ensures { IsTrue result ↔ Contains (config_organisers self.now) (address_octets organiser.now) }
+    {
+        is_among(self.organisers.as_slice(), organiser)
+    }
+
     /// The zone of the room of this address, UTC where no line gives one; None where the box doesn't host it.
     pub fn zone(&self, room: &Address) -> Option<&RoomZone>
         ensures found { IfSome result (λ zone. Contains (config_hosts self.now).rooms
@@ -120,6 +127,13 @@ impl Config {
     {
         zone_in(self.rooms.as_slice(), room)
     }
+}
+
+/// Whether an address is one of these.
+fn is_among(addresses: &[Address], address: &Address) -> bool
+    ensures { IsTrue result ↔ Contains (map address_octets addresses.now) (address_octets address.now) }
+{
+    addresses.iter().any(|one| *one == *address)
 }
 
 /// The zone of the room of this address, which is one of these.

@@ -8,6 +8,7 @@ mod fault;
 pub mod file_names;
 pub mod folders;
 pub mod journal;
+pub mod meetings;
 pub mod objects;
 mod organisers;
 pub mod preamble;
@@ -21,6 +22,7 @@ pub use fault::{ServeFault, StreamFault};
 pub use file_names::MessageName;
 pub use folders::{BoxFault, BoxReport, run_box, run_box_telling};
 pub use journal::{Fate, Journal, Nobody};
+pub use meetings::shown_meetings;
 pub use preamble::read_preamble;
 pub use sched_devices::{
     DeviceReader, DeviceWriter, DiskFolder, Folder, FolderFault, Input, Output, WriteFault,

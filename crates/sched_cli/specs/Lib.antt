@@ -7,6 +7,7 @@ pub mod EventFlaws
 pub mod Explained
 pub mod Expanding
 pub mod InTheWay
+pub mod Meetings
 pub mod Logging
 pub mod Obstacles
 pub mod Places

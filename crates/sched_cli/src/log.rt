@@ -1,6 +1,6 @@
 //! `--report`: says of each object that came to nothing what became of it, in a line of its own.
 
-ghost use Rattle.std.specs.Prelude.{◌≡◌, ◌++◌, ◌<◌, ℕ, List, Option, None, decimal, codes, true, false, IfOk, OnOk};
+ghost use Rattle.std.specs.Prelude.{◌≡◌, ◌++◌, ◌<◌, ℕ, List, [], Option, None, decimal, codes, true, false, IfOk, OnOk};
 ghost use Rattle.std.specs.List.{list_all};
 ghost use Rattle.sched_box.specs.Journal.{fate_said};
 ghost use Rattle.sched_cli.specs.Logging.{IsObjectLine, LogTells, fate_words, is_shown, is_taken};
@@ -29,6 +29,8 @@ impl<L: Output> Log<L> {
     pub fn new(alloc: Global, to: L) -> Log<L>
         ensures to { result.to ≡ to }
         ensures none { result.fault ≡ None }
+        ensures loud { result.is_quiet ≡ false }
+        ensures file { result.file.items ≡ [] }
     {
         Log {
             alloc,
