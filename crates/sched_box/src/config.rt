@@ -10,7 +10,7 @@ ghost use Rattle.profile.specs.streams.Streams.{addresses, room_in};
 ghost use Rattle.cal_zones.specs.RoomZones.{room_of, words_of};
 ghost use Rattle.sched_box.specs.Settings.{ReadsSettings, ReadsNone, zoned_room};
 
-use crate::settings::{Settings, ZonedRoom, refused, zone_among};
+use crate::settings::{Settings, ZonedRoom, contains, refused, zone_among};
 use cal_zones::RoomZone;
 use ical_lines::Fault;
 use ical_values::{Address, Stamp};
@@ -116,7 +116,7 @@ impl Config {
     pub fn has_organiser(&self, organiser: &Address) -> bool
         ensures { IsTrue result ↔ Contains (config_organisers self.now) (address_octets organiser.now) }
     {
-        is_among(self.organisers.as_slice(), organiser)
+        contains(self.organisers.as_slice(), organiser)
     }
 
     /// The zone of the room of this address, UTC where no line gives one; None where the box doesn't host it.
@@ -127,13 +127,6 @@ impl Config {
     {
         zone_in(self.rooms.as_slice(), room)
     }
-}
-
-/// Whether an address is one of these.
-fn is_among(addresses: &[Address], address: &Address) -> bool
-    ensures { IsTrue result ↔ Contains (map address_octets addresses.now) (address_octets address.now) }
-{
-    addresses.iter().any(|one| *one == *address)
 }
 
 /// The zone of the room of this address, which is one of these.
