@@ -2,7 +2,7 @@ use Rattle.std.proofs.lemmas.Result.{err_from_is_err_and}
 use Rattle.profile.specs.streams.Streams.{new_box}
 use Rattle.sched_box.specs.Config.{config_hosts}
 use Rattle.sched_box.proofs.ServingLemmas.{filled_none, serves_from, serves_none}
-use Rattle.sched_box.proofs.serving.serve_telling.Goals as goal
+use Rattle.sched_box.proofs.serving.serve.Goals as goal
 
 pub returns-in_err-books-clause-serves : goal.returns-in_err-books-clause-serves
 returns-in_err-books-clause-serves g c =
