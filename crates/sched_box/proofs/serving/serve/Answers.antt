@@ -16,6 +16,3 @@ returns-clause-serves g c =
 
 pub returns-in_err-books-clause-fills : goal.returns-in_err-books-clause-fills
 returns-in_err-books-clause-fills g c = filled_none 2 _ _
-
-pub returns-clause-tells : goal.returns-clause-tells
-returns-clause-tells g c = c.serve_objects.ensures.tells (new_box (config_hosts c.args.config.now)) c.in_ok-books.ensures.kept
