@@ -80,7 +80,6 @@ VERDICTS = {
     ("told", "Folder.counts_held"): ("proved", "which failures are counted, of each folder there is"),
     ("told", "Folder.counts_now"): ("proved", "which failures are counted, of each folder there is"),
     ("told", "Folder.only_now"): ("proved", "which failures are counted, of each folder there is"),
-    ("told", "Journal.tells"): ("proved", "what is told of an object, of `Log` and of `Nobody`"),
     ("told", "Recurs.member"): ("proved", "of `Series`, by its own contracts"),
     ("told", "Recurs.period"): ("proved", "of `Series`, by its own contracts"),
     ("told", "Recurs.regular"): ("proved", "of `Series`, by its own contracts"),
