@@ -47,15 +47,13 @@ pub fn again_answer<R: Files + AllocGlobal>(rt: &R, case: Case<'_>) -> Result<St
 
 /// What came of a message.
 #[derive(Drop)]
-enum Taken {
-    /// What the room answers.
-    Answered(Answer),
+struct Taken {
+    /// What the room answers, or Ann to a refresh.
+    answer: Option<Vec<u8>>,
+    /// The refresh of the room.
+    refresh: Option<Vec<u8>>,
     /// What Ann sends.
-    Sent(Vec<Outgoing>),
-    /// What she answers to a refresh.
-    Refreshed(Vec<u8>),
-    /// She has seen a reply.
-    Seen,
+    sent: Vec<Outgoing>,
 }
 
 /// What both keep and show.
@@ -132,17 +130,26 @@ impl Hosts {
     }
 
     fn take(&mut self, message: &Message) -> Result<Taken, Fault> {
+        let mut taken = Taken {
+            answer: None,
+            refresh: None,
+            sent: Vec::new(self.alloc),
+        };
         match message.method() {
-            Method::Store => Ok(Taken::Sent(self.organiser.store(message, self.now)?)),
-            Method::Reply => {
-                self.organiser.take_reply(message)?;
-                Ok(Taken::Seen)
-            }
-            Method::Refresh => Ok(Taken::Refreshed(self.organiser.take_refresh(message)?)),
+            Method::Store => taken.sent = self.organiser.store(message, self.now)?,
+            Method::Reply => self.organiser.take_reply(message)?,
+            Method::Refresh => taken.answer = Some(self.organiser.take_refresh(message)?),
             Method::Request | Method::Add | Method::Cancel => {
-                Ok(Taken::Answered(self.room.take(message, self.now)?))
+                let Answer {
+                    kind: _,
+                    reply,
+                    refresh,
+                } = self.room.take(message, self.now)?;
+                taken.answer = reply;
+                taken.refresh = refresh;
             }
         }
+        Ok(taken)
     }
 }
 
@@ -155,26 +162,21 @@ fn answer_text(alloc: Global, taken: Result<Taken, Fault>) -> Result<String, NoA
 }
 
 fn taken_text(alloc: Global, taken: &Taken) -> Result<String, NoAnswer> {
-    match taken {
-        Taken::Answered(answer) => answered_text(alloc, answer),
-        Taken::Sent(sent) => {
-            let mut octets = Vec::new(alloc);
-            for one in sent {
-                octets.extend_from_slice(one.octets.as_slice())?;
-            }
-            Ok(escaped(alloc, octets.as_slice())?)
-        }
-        Taken::Refreshed(octets) => Ok(escaped(alloc, octets.as_slice())?),
-        Taken::Seen => Ok(none(alloc)?),
-    }
-}
-
-fn answered_text(alloc: Global, answer: &Answer) -> Result<String, NoAnswer> {
     let mut octets = Vec::new(alloc);
-    for object in [&answer.reply, &answer.refresh] {
-        if let Some(object) = object {
-            octets.extend_from_slice(object.as_slice())?;
-        }
+    append(&mut octets, &taken.answer)?;
+    append(&mut octets, &taken.refresh)?;
+    for one in &taken.sent {
+        octets.extend_from_slice(one.octets.as_slice())?;
+    }
+    if octets.is_empty() {
+        return Ok(none(alloc)?);
     }
     Ok(escaped(alloc, octets.as_slice())?)
+}
+
+fn append(octets: &mut Vec<u8>, object: &Option<Vec<u8>>) -> Result<(), AllocError> {
+    match object {
+        Some(object) => octets.extend_from_slice(object.as_slice()),
+        None => Ok(()),
+    }
 }
