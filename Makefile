@@ -12,11 +12,11 @@ MAN_PAGE = $(BELOW)/share/man/man1/roombox.1
 COMPLETION = $(BELOW)/share/bash-completion/completions/roombox
 # README, what it leads to, and the examples, with the same folders between them
 DOCUMENTS = $(BELOW)/share/doc/roombox
-DOCUMENT_FILES := README.md CHANGELOG.md $(wildcard docs/*) $(wildcard examples/*.ics* examples/*.replies) $(wildcard examples/mail/*.* examples/systemd/*.* examples/zones/*.*)
+DOCUMENT_FILES := README.md CHANGELOG.md $(wildcard docs/*.* docs/*/*.* examples/*.* examples/*/*.*)
 
-.PHONY: try run test attack bench fuzz man layout install uninstall deb clean
+.PHONY: try run test attack bench fuzz man layout tables install uninstall deb clean
 
-# Answers the first request in about a minute. Nothing is proved this way.
+# Answers the first request in about 1 minute. Nothing is proved this way.
 try:
 	@cd crates/roombox && $(RT) try < ../../$(EXAMPLE)
 	@echo "(nothing was proved: 'make run' proves what it runs)"
@@ -37,6 +37,11 @@ FORCE:
 # The whole gate: every proof from nothing, the edits that must fail, the tests and the programs.
 test:
 	$(RT) ci
+
+# The tables of the documents that scripts make from the sources; with CHECK=--check they are only compared. Then how many lines people wrote.
+tables:
+	@status=0; for script in crates_table crates_picture attacks_table contracts_table definitions_tables vocabulary premises gate_figures user_tables; do \
+		[ ! -f bench/$$script.py ] || python3 bench/$$script.py $(CHECK) || status=1; done; python3 bench/document_lines.py || status=1; exit $$status
 
 # Lays out each crate as the gate wants it: a file that isn't stops its crate and all above it.
 layout:
@@ -72,9 +77,10 @@ bench: bin/roombox bin/text_examples bin/worked_examples bin/schedule_examples
 fuzz: bin/roombox
 	python3 tests/fuzz.py bin/roombox $(if $(SECONDS),--seconds $(SECONDS)) $(if $(COMMAND),--command $(COMMAND)) $(if $(SEED),--seed $(SEED))
 
-# The man page and the bash completion, docs/roombox.1 and docs/roombox.bash, from the program's help.
+# The man page and the bash completion, docs/roombox.1 and docs/roombox.bash, from the program's help; and the table of numbers in docs/REFERENCE.md.
 man: bin/roombox
 	python3 bench/man_page.py bin/roombox docs
+	python3 bench/user_tables.py
 
 # The program that `make run` has built, its man page, its completion in bash, its documents and its examples. It builds nothing: so it can be run by root.
 install:

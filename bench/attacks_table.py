@@ -1,7 +1,7 @@
-"""Writes the table of docs/ATTACKS.md: how many wrong programs each crate has, and what they change.
+"""Writes the tables of docs/ATTACKS.md: how many wrong programs each crate has, what they change, and where the wrong bodies with a name are.
 
-    python3 bench/attacks_table.py            writes the table between its two marker comments
-    python3 bench/attacks_table.py --check    changes nothing; ends with 1 where the table isn't that of the edits
+    python3 bench/attacks_table.py            writes each table between its two marker comments
+    python3 bench/attacks_table.py --check    changes nothing; ends with 1 where a table isn't that of the edits
 
 The edits are crates/NAME/must-fail/*.edit and crates/NAME/planted/*.edit. What one changes is told by its old and its new texts: the
 statement of a law or of another contract, where the old text is in one; else by the words that differ: numbers and quoted texts (with a
@@ -16,7 +16,30 @@ import sys
 from repository import ROOT, crates_below
 
 PAGE = ROOT / "docs" / "ATTACKS.md"
-BEGIN, END = "<!-- table: bench/attacks_table.py -->\n", "<!-- end of table -->\n"
+TABLE = re.compile(r"(<!-- table: bench/attacks_table\.py(?: (\w+))? -->\n)(.*?)(<!-- end of table -->\n)", re.DOTALL)
+# the wrong bodies that have a name, each with its edits
+NAMED = {
+    "a gap's times are read with the offset after it": ("gap_read_with_the_offset_after",),
+    "the fold at an only onset ends a second early": ("the_fold_at_the_only_onset",),
+    "set positions are counted from DTSTART": ("set_positions_counted_from_dtstart",),
+    "a series isn't compared with itself": ("series_not_compared_with_itself", "a_series_not_compared_with_itself"),
+    "a CANCEL of a meeting that isn't known is dropped": ("unknown_cancel_dropped",),
+    "a room that one override alone names is dropped": ("room_named_in_one_override_dropped",),
+    "a declined revision keeps the older booking; an invented decline; a repeat is answered anew": ("older_booking_kept", "invented_clash", "repeat_answered_anew"),
+    "the checker ignores the certificate, or always says no; an invented count of draws": (
+        "checker_ignores_the_certificate", "checker_makes_its_own_certificate", "checker_always_says_no", "an_invented_count_of_draws"),
+    "one period for all pairs; a period that begins before a late exception; compared without the width": (
+        "one_period_for_all", "a_period_begins_before_a_late_exception", "compared_without_the_width"),
+    "always END; entries copied by position; a new series given the entries of another": (
+        "end_where_residues_settle", "entries_copied_by_position", "a_new_series_given_the_entries_of_another"),
+    "arcs closed at their end; one offset of two forgotten; the stride of one series for both; a residue compared with itself": (
+        "an_arc_closed_at_its_end", "one_offset_of_two_forgotten", "the_stride_of_one_series", "arcs_of_one_residue_compared_with_itself"),
+    "near onsets: without the width; of one half year; of 400 years alone; within half a day": (
+        "near_onsets_without_the_width", "onsets_of_the_next_half_year_skipped", "onsets_of_400_years_alone", "near_onsets_only_half_a_day"),
+    "an old reply accepts a new revision": ("old_reply_accepts_a_new_revision",),
+    "the books are forgotten": ("books_forgotten", "books_of_a_world_forgotten"),
+    "an answer is published before it is synced, or over another": ("published_before_synced", "published_over_an_answer"),
+}
 TOKEN = re.compile(r"""(?P<literal>b?'(?:\\.|[^'\\])'|b?"(?:\\.|[^"\\])*"|\d[\d_]*)|(?P<name>[^\W\d]\w*)|(?P<sign>\S)""")
 # signs of the language of proofs, which no line of code has
 GHOST = re.compile("[→≡λ×∷≤⊥↔⊎ℤℕ]")
@@ -76,7 +99,7 @@ def row(cells):
     return "| " + " | ".join(f"{cell:,}" if isinstance(cell, int) else cell for cell in cells) + " |\n"
 
 
-def table():
+def counts():
     """The rows of the crates that have edits, and their sum."""
     rows = {}
     for crate in crates_below():
@@ -88,19 +111,32 @@ def table():
     return row(COLUMNS) + "|---|" + "---:|" * (len(COLUMNS) - 1) + "\n" + "".join(row((name, *counts)) for name, counts in rows.items())
 
 
+def named():
+    """The wrong bodies that have a name, and in which crates and folders their edits are; ends the script where one isn't there."""
+    rows = row(("Wrong body", "In `must-fail/`", "In `planted/`")) + "|---|---|---|\n"
+    for body, edits in NAMED.items():
+        cells = {"must-fail": {}, "planted": {}}
+        for edit in edits:
+            files = sorted((ROOT / "crates").glob(f"*/*/{edit}.edit"))
+            if not files:
+                sys.exit(f"no crate has an edit {edit}")
+            for file in files:
+                cells[file.parts[-2]].setdefault(file.parts[-3], []).append(f"`{edit}`")
+        rows += row((body, *("; ".join(f"{crate}: {', '.join(names)}" for crate, names in cell.items()) for cell in cells.values())))
+    return rows
+
+
 def main():
     if sys.argv[1:] not in ([], ["--check"]):
         sys.exit(__doc__)
     text = PAGE.read_text(encoding="utf-8")
-    head, begin, rest = text.partition(BEGIN)
-    old, end, tail = rest.partition(END)
-    if not (begin and end):
-        sys.exit(f"{PAGE}: the two marker comments aren't there")
+    if [it[2] for it in TABLE.finditer(text)] != [None, "named"]:
+        sys.exit(f"{PAGE}: the marker comments aren't there")
+    made = TABLE.sub(lambda it: it[1] + (named() if it[2] else counts()) + it[4], text)
     if sys.argv[1:]:
-        stale = old != table()
-        print(f"{PAGE.relative_to(ROOT)}: the table is {'stale: run bench/attacks_table.py' if stale else 'that of the edits'}")
-        sys.exit(int(stale))
-    PAGE.write_text(head + begin + table() + end + tail, encoding="utf-8")
+        print(f"{PAGE.relative_to(ROOT)}: the tables are {'stale: run bench/attacks_table.py' if made != text else 'those of the edits'}")
+        sys.exit(int(made != text))
+    PAGE.write_text(made, encoding="utf-8")
 
 
 if __name__ == "__main__":

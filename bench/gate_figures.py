@@ -1,18 +1,25 @@
-"""Counts what the gate proves and what it costs, for each crate and for all, and prints it as a page (docs/GATE.md).
+"""Writes the tables of docs/GATE.md: what the gate costs, what it proves in each crate, and the functions that cost most.
+
+    python3 bench/gate_figures.py            counts what it proves, and writes that table between its two marker comments
+    python3 bench/gate_figures.py --check    changes nothing; ends with 1 where that table isn't that of the tree
 
     python3 bench/gate.py > out/gate.tsv; python3 bench/dear_functions.py > out/functions.tsv
-    python3 bench/gate_figures.py --gate out/gate.tsv --functions out/functions.tsv --machine "four fast processors" > docs/GATE.md
+    python3 bench/gate_figures.py --gate out/gate.tsv --functions out/functions.tsv --machine "four fast processors, at commit .."
 
-A line counts where it isn't blank; comments count. Without --gate the page says that the gate wasn't measured.
+The tables of what was measured stay as they are where no measurement is given. A line counts where it isn't blank; comments count.
 """
 
 import argparse
 import re
+import sys
 import textwrap
 from pathlib import Path
 
 from repository import ROOT, crates_below
 
+PAGE = ROOT / "docs" / "GATE.md"
+TABLE = re.compile(r"(<!-- table: bench/gate_figures\.py (\w+) -->\n)(.*?)(<!-- end of table -->\n)", re.DOTALL)
+TABLES = ["costs", "proves", "functions"]
 TEST_MODULE = "#[cfg(test)]"
 TEST = re.compile(r"^\s*#\[test\]", re.MULTILINE)
 COLUMNS = ("Crate", "Code", "Definitions and specs", "Proofs", "Must-fail edits", "Planted edits", "Tests")
@@ -63,8 +70,6 @@ def rows_of(file):
 
 def costs(given, lines, own):
     """What the gate took, by kind and for 1,000 lines of code, and its dearest edits."""
-    if not given.gate:
-        return ["Not measured. Measure it with `python3 bench/gate.py > out/gate.tsv`."]
     rows = rows_of(given.gate)
     seconds = {kind[0]: float(kind[1]) for kind in rows if kind[0] not in ("crate", "edit")}
     clock, whole = seconds.pop("minutes on the clock"), seconds["all"]
@@ -89,19 +94,29 @@ def costs(given, lines, own):
     return [paragraph(said), "", *table, "", paragraph(by_crate), "", *shares, *(["", paragraph(dear)] if is_split else [])]
 
 
+def proves(table, total):
+    """What the gate proves in each crate."""
+    yield row(COLUMNS)
+    yield "|---|" + "---:|" * (len(COLUMNS) - 1)
+    for name, counts in table.items():
+        yield row((f"`{name}`", *counts))
+    yield row(("all", *total))
+
+
 def dearest(file):
     """The ten dearest functions of each crate."""
     functions = {}
     for crate, name, seconds in rows_of(file):
         functions.setdefault(crate, []).append((float(seconds), name.removeprefix(f"{crate}::")))
+    yield row(("Crate", "Start", "Functions", "The ten that cost most"))
+    yield "|---|---:|---:|---|"
     for crate, found in functions.items():
         start = sum(it for it, name in found if name == "start")
         ten = sorted((it for it in found if it[1] != "start"), reverse=True)[:10]
         whole = sum(it for it, _ in found) - start
         # a check that is divided among several processes shows bench/dear_functions.py nothing
-        if not whole:
-            continue
-        yield paragraph(f"- `{crate}`: start {start:.0f}, functions {whole:.0f}: " + ", ".join(f"`{name}` {it:.1f}" for it, name in ten) + ".", "  ")
+        if whole:
+            yield row((f"`{crate}`", round(start), round(whole), ", ".join(f"`{name}` {it:.1f}" for it, name in ten)))
 
 
 def main():
@@ -109,29 +124,27 @@ def main():
     parser.add_argument("--gate", help="what bench/gate.py printed")
     parser.add_argument("--functions", help="what bench/dear_functions.py printed")
     parser.add_argument("--machine", default="this machine", help="what it was measured on")
+    parser.add_argument("--check", action="store_true", help="change nothing; end with 1 where the table of what it proves is stale")
     given = parser.parse_args()
+    text = PAGE.read_text(encoding="utf-8")
+    if [it[2] for it in TABLE.finditer(text)] != TABLES:
+        sys.exit(f"{PAGE.relative_to(ROOT)} hasn't the marker comments of {TABLES}")
     table = {name: figures(ROOT / "crates" / name) for name in crates_below()}
     total = [sum(column) for column in zip(*table.values())]
-    print((ROOT / "bench" / "gate_head.md").read_text(encoding="utf-8"))
-    print("## What it costs\n")
     own = sum(counts[0] for name, counts in table.items() if not re.search(r"_(examples|tests)$", name))
-    print(*costs(given, total[0], own), sep="\n")
-    print("\n## What it proves\n")
-    said = "Code, definitions, specs and proofs are lines that aren't blank; code is without its tests. "
-    print(paragraph(said + "The crate `profile` holds the definitions that all contracts cite.") + "\n")
-    print(row(COLUMNS))
-    print("|---|" + "---:|" * (len(COLUMNS) - 1))
-    for name, counts in table.items():
-        print(row((f"`{name}`", *counts)))
-    print(row(("all", *total)))
+    made = {"proves": proves(table, total)}
+    if given.gate:
+        made["costs"] = costs(given, total[0], own)
     if given.functions:
-        print("\n## The functions that cost most\n")
-        said = "Processor seconds, several crates side by side, by the progress lines of `rt check --jobs 1`: up to the first function of a crate "
-        said += "(which loads the libraries), for all its others, and for the ten that cost most. A function's time holds that of the lemma files that are "
-        said += "first cited there. A crate that isn't here wasn't measured."
-        print(paragraph(said) + "\n")
-        print(*dearest(given.functions), sep="\n")
+        made["functions"] = dearest(given.functions)
+    made = {name: "".join(f"{line}\n" for line in lines) for name, lines in made.items()}
+    new = TABLE.sub(lambda it: it[1] + made.get(it[2], it[3]) + it[4], text)
+    if given.check:
+        print(f"{PAGE.relative_to(ROOT)}: the table is {'that of the tree' if new == text else 'stale: run bench/gate_figures.py'}")
+        return int(new != text)
+    PAGE.write_text(new, encoding="utf-8")
+    return 0
 
 
 if __name__ == "__main__":
-    main()
+    sys.exit(main())

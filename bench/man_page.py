@@ -12,7 +12,7 @@ import sys
 from dataclasses import dataclass, field
 from pathlib import Path
 
-SEE_ALSO = "docs/PROFILE.md, the guide: input, output, how a room decides, and each number. RFC 5545 (iCalendar), RFC 5546 (iTIP), RFC 6638 (scheduling)."
+SEE_ALSO = "docs/GUIDE.md: input, output, how a room decides. docs/REFERENCE.md: each number, formats, limits. RFC 5545 (iCalendar), RFC 5546 (iTIP), RFC 6638 (scheduling)."
 
 
 @dataclass

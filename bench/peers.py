@@ -3,7 +3,7 @@
     python3 bench/peers.py                  # instances a second of dateutil, in processor seconds
     python3 bench/peers.py bin/roombox      # and of `roombox expand`, with what it prints
 
-docs/SPEED.md has the figures ("Beside other programs").
+docs/SPEED.md has the figures.
 """
 
 import itertools

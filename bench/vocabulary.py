@@ -1,22 +1,27 @@
-"""Fails where a type that a crate offers has no row in the table of docs/DEFINITIONS.md, or a row names a definition that profile hasn't.
+"""Writes the table of docs/DEFINITIONS.md, "The words of the code": each type that a crate offers, what it is, its definition and the RFC's word.
 
-    python3 bench/vocabulary.py
+    python3 bench/vocabulary.py            writes the table between its two marker comments
+    python3 bench/vocabulary.py --check    changes nothing; ends with 1 where the table isn't that of the sources
 
-A type is offered where `src/lib.rt` of a library has it in a `pub use`. The table is that of "The words of the code": its first column has
-types, its second definitions of `profile`. A type in a row that no crate offers fails too.
+A type is offered where `src/lib.rt` of a library has it in a `pub use`. What it is says the first sentence of its doc comment. Its definition in
+`profile` and its word in the RFCs are in bench/vocabulary.tsv: crate, types, definitions and word, parted by TABs. Either way the script ends
+with 1 where a type that is offered has no line there, where a line names a type that no crate offers (it is left out then), or a definition
+that profile hasn't.
 """
 
 import re
 import sys
 
-from repository import ROOT
+from repository import ROOT, crates_below
 
 CRATES = ROOT / "crates"
+PAGE, DATA = ROOT / "docs" / "DEFINITIONS.md", ROOT / "bench" / "vocabulary.tsv"
+BEGIN, END = "<!-- table: bench/vocabulary.py -->\n", "<!-- end of table -->\n"
 # crates of examples and tests, and the definitions themselves
 LEFT_OUT = {"profile", "example_cases", "text_examples", "worked_examples", "folder_examples", "schedule_examples", "device_tests", "roombox"}
 EXPORT = re.compile(r"^pub use (\w+)[\w:]*?::(?:\{([^}]*)\}|(\w+));", re.MULTILINE)
 DEFINED = re.compile(r"^ *(?:pub )?(?:abbrev|unfoldable|data|record)(?: pub)? ([^\s:({]+)", re.MULTILINE)
-HEADING = "## The words of the code"
+SENTENCE = re.compile(r".+?[.?](?= |$)")
 
 
 def is_type(name):
@@ -40,34 +45,61 @@ def offered():
 
 
 def rows():
-    """The rows of the table: the crate whose part they are in, their types and their definitions."""
-    text = (ROOT / "docs" / "DEFINITIONS.md").read_text(encoding="utf-8")
-    crate = None
-    for line in text.split(HEADING)[1].split("\n## ")[0].split("\n"):
-        cells = [cell.strip() for cell in line.strip("|").split("|")] if line.startswith("|") else []
-        if len(cells) != 3 or cells[0].startswith(("Type", "---")):
-            continue
-        if cells[0].startswith("**"):
-            crate = cells[0].strip("*")
-            continue
-        yield crate, re.findall(r"`(\w+)`", cells[0]), re.findall(r"`(\w+)`", cells[1])
+    """The lines of the data: a crate, its types, their definitions, and the RFC's word."""
+    for line in DATA.read_text(encoding="utf-8").splitlines():
+        crate, own, meant, word = line.split("\t")
+        yield crate, re.findall(r"\w+", own), re.findall(r"\w+", meant), word
 
 
-def main():
+def said(crate, name):
+    """The first sentence of a type's doc comment."""
+    head = re.compile(rf"((?:^ *///[^\n]*\n)+)(?:^ *#\[[^\n]*\n)*^ *pub (?:struct|enum|trait|type) {name}\b", re.MULTILINE)
+    for path in sorted((CRATES / crate / "src").glob("*.rt")):
+        if found := head.search(path.read_text(encoding="utf-8")):
+            text = " ".join(line.strip().removeprefix("///").strip() for line in found[1].strip().split("\n"))
+            return SENTENCE.match(text)[0].replace("|", "\\|")
+    return "-"
+
+
+def table():
+    lines, last = ["| Type | What it is | Definition | RFC term |\n|---|---|---|---|\n"], None
+    place = {crate: number for number, crate in enumerate(crates_below())}
+    names = lambda words: ", ".join(f"`{it}`" for it in words) or "-"
+    types = set(offered())
+    there = [(crate, [it for it in own if (crate, it) in types], meant, word) for crate, own, meant, word in rows()]
+    for crate, own, meant, word in sorted((it for it in there if it[1]), key=lambda it: place[it[0]]):
+        lines += [f"| **{crate}** | | | |\n"] * (crate != last)
+        lines.append(f"| {names(own)} | {' '.join(said(crate, it) for it in own)} | {names(meant)} | {word} |\n")
+        last = crate
+    return "".join(lines)
+
+
+def faults():
     definitions = set()
     for path in (CRATES / "profile" / "specs").rglob("*.antt"):
         definitions |= set(DEFINED.findall(path.read_text(encoding="utf-8")))
-    types, faults = set(offered()), []
-    named = set()
-    for crate, own, meant in rows():
-        named |= {(crate, name) for name in own}
-        faults += [f"{crate}: no definition {name} in profile" for name in meant if name not in definitions]
-    faults += [f"{crate}: {name} has no row" for crate, name in sorted(types - named)]
-    faults += [f"{crate}: {name} isn't offered" for crate, name in sorted(named - types)]
-    for fault in faults:
-        print(fault)
-    print(f"{len(types)} types, {len(faults)} faults")
-    return bool(faults)
+    types, named = set(offered()), {(crate, name) for crate, own, _, _ in rows() for name in own}
+    found = [f"{crate}: no definition {name} in profile" for crate, _, meant, _ in rows() for name in meant if name not in definitions]
+    found += [f"{crate}: {name} has no line" for crate, name in sorted(types - named)]
+    found += [f"{crate}: {name} isn't offered" for crate, name in sorted(named - types)]
+    print(*found, f"{len(types)} types, {len(found)} faults", sep="\n")
+    return bool(found)
+
+
+def main():
+    if sys.argv[1:] not in ([], ["--check"]):
+        sys.exit(__doc__)
+    wrong = faults()
+    text = PAGE.read_text(encoding="utf-8")
+    head, begin, rest = text.partition(BEGIN)
+    old, end, tail = rest.partition(END)
+    if not (begin and end):
+        sys.exit(f"{PAGE}: the two marker comments aren't there")
+    if sys.argv[1:]:
+        print(f"{PAGE.relative_to(ROOT)}: the table is {'that of the types' if old == table() else 'stale: run bench/vocabulary.py'}")
+        return int(old != table() or wrong)
+    PAGE.write_text(head + begin + table() + end + tail, encoding="utf-8")
+    return int(wrong)
 
 
 if __name__ == "__main__":

@@ -3,7 +3,7 @@ full and after a file had vanished.
 
     python3 tests/box.py bin/roombox [FOLDER]
 
-What is expected was written by hand from the rules in docs/PROFILE.md, and never from the program's output; a run that was killed is compared with one
+What is expected was written by hand from the rules in docs/GUIDE.md and docs/OPERATING.md, and never from the program's output; a run that was killed is compared with one
 that wasn't. FOLDER is where the folders of the tests are made, on the disk that is to be tried; where none is given, it is the system's for temporary
 files. A test that needs another user, a mount or strace says so and is left out where there is none. It prints each case that fails, and ends with 1
 where one did. Most of its time is that of the disk: 20,000 answers, each synced before it gets its name and after it.
@@ -35,6 +35,11 @@ NOBODY = 65_534
 SEED = 20_250_102
 MANY, KILLS = 10_000, 100
 MEMORY = Path("/dev/shm")
+
+
+def first_line(said):
+    """What is said first: reasons come behind it."""
+    return "".join(said.splitlines(keepends=True)[:1])
 
 
 # ---- messages, answers and folders
@@ -93,9 +98,9 @@ class Boxes:
         return [self.program, "box", str(self.config), str(self.inbox), str(self.outbox)]
 
     def run(self, **how):
-        """The status, the standard output and the standard error of a run."""
+        """The status, the standard output and the first line on standard error of a run; tests/reports.py looks at the reasons behind it."""
         ended = subprocess.run(self.words(), stdin=subprocess.DEVNULL, capture_output=True, timeout=300, **how)
-        return ended.returncode, ended.stdout.decode(), ended.stderr.decode()
+        return ended.returncode, ended.stdout.decode(), first_line(ended.stderr.decode())
 
     def begun(self):
         return subprocess.Popen(self.words(), stdin=subprocess.DEVNULL, stdout=subprocess.DEVNULL, stderr=subprocess.PIPE)
@@ -500,7 +505,7 @@ def vanished(cases, parent):
     while not (boxes.outbox / named(1, end="out")).exists() and run.poll() is None:
         time.sleep(0.0005)
     (boxes.inbox / named(MANY)).unlink()
-    said = run.stderr.read().decode()
+    said = first_line(run.stderr.read().decode())
     cases.holds("a file that vanishes", (run.wait(), said), (4, "roombox: device\n"))
     cases.holds("the answers to the others are there", boxes.names(), [named(number, end="out") for number in range(1, MANY)])
     run.stderr.close()

@@ -1,5 +1,5 @@
 """Makes random calendars of one room and says what `roombox check` must answer to them. What a calendar says is what icalendar, a library of
-Python, parses of its text; its local times are read by zoneinfo; and which instances it confirms is worked out here, from docs/PROFILE.md. So
+Python, parses of its text; its local times are read by zoneinfo; and which instances it confirms is worked out here, from docs/REFERENCE.md. So
 nothing of roombox, and nothing that the maker of the text knows, is in the answers.
 
     python3 tests/calendars_by_icalendar.py --rows CALENDARS [SEED]

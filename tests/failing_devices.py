@@ -3,7 +3,7 @@
     python3 tests/failing_devices.py bin/roombox
 
 The calls are made to fail by a small shim over the C library's read and write, built by gcc in a temporary folder. What has to come out is said in
-docs/PROFILE.md: status 4 and `roombox: device`. After a read that fails, the answers to the objects of which the octet behind their end was read, whole;
+docs/REFERENCE.md: status 4 and `roombox: device`. After a read that fails, the answers to the objects of which the octet behind their end was read, whole;
 after a write that fails, all octets before it. The stream has a decline, a cancellation, a repeat and a revision. `keep`, `expand` and `explain` answer
 nothing after a read that fails, nor does the door before an object has ended. It prints each case that fails, and ends with 1 where one did.
 """
@@ -26,6 +26,7 @@ STREAM = (
     ("request-b-busy-sequence-1", "accepted-b-1"),
 )
 DEVICE = (4, b"roombox: device\n")
+READING, WRITING = (DEVICE[1] + b"roombox: standard %s: it can't be used\n" % name for name in (b"input", b"output"))
 
 SHIM = r"""
 #define _GNU_SOURCE
@@ -94,9 +95,9 @@ def served(cases, devices):
         octets = call - 1
         sent = b"".join([answer for end, answer in ends if end <= octets][-1:])
         # the end of the input is read twice: the last object is answered between
-        cases.holds(f"read {call}", devices.run(["serve"], given, FAILING_READ=call), (DEVICE[0], sent, DEVICE[1]))
+        cases.holds(f"read {call}", devices.run(["serve"], given, FAILING_READ=call), (DEVICE[0], sent, READING))
     for call in range(1, len(answers) + 1):
-        cases.holds(f"write {call}", devices.run(["serve"], given, FAILING_WRITE=call), (DEVICE[0], answers[: call - 1], DEVICE[1]))
+        cases.holds(f"write {call}", devices.run(["serve"], given, FAILING_WRITE=call), (DEVICE[0], answers[: call - 1], WRITING))
 
 
 def others(cases, devices):
@@ -109,9 +110,9 @@ def others(cases, devices):
         status, out, said = devices.run(words, given)
         cases.holds(f"{what}, no call fails", (status, said), (0, b""))
         for call in range(1, len(given) + 2):
-            cases.holds(f"{what}, read {call}", devices.run(words, given, FAILING_READ=call), (DEVICE[0], b"", DEVICE[1]))
+            cases.holds(f"{what}, read {call}", devices.run(words, given, FAILING_READ=call), (DEVICE[0], b"", READING))
         for call in range(1, len(out) + 1):
-            cases.holds(f"{what}, write {call}", devices.run(words, given, FAILING_WRITE=call), (DEVICE[0], out[: call - 1], DEVICE[1]))
+            cases.holds(f"{what}, write {call}", devices.run(words, given, FAILING_WRITE=call), (DEVICE[0], out[: call - 1], WRITING))
 
 
 def main():

@@ -146,7 +146,7 @@ zone mailto:ann@example.com +0530
 organiser mailto:ann@example.com""".split("\n")
 OCTETS = b"\0\t\n\r\x1b !\",.:;=\\\x7f\x80\xbf\xc3\xe2\xff"
 # of the command line
-WORDS = ["serve", "keep", "check", "expand", "explain", "box", "adapt", "agenda", "--free", "--from", "--until", "--reply-to", "--single", "--adapt", "--zones", "help", "--help", "-h", "--version", "--report", "--certificate", "--limit", "--limit=1", "--zone", "--zone=", "--zone=+0530", "--", "-", "", ROOM]
+WORDS = ["serve", "keep", "check", "expand", "explain", "box", "adapt", "agenda", "meetings", "--free", "--ics", "--from", "--until", "--reply-to", "--single", "--adapt", "--zones", "help", "--help", "-h", "--version", "--report", "--certificate", "--limit", "--limit=1", "--zone", "--zone=", "--zone=+0530", "--", "-", "", ROOM]
 WORDS += ["r1", "no/such/file", ".", *NUMBERS, *(f"--zone={words}" for words in ROOM_ZONES)]
 
 # ---- what is spoiled
@@ -437,7 +437,8 @@ def agenda_case(spoiler):
     for name in ("--from", "--until"):
         if spoiler.chance.random() < 0.9:
             words += [name, spoiler.chance.choice(("20250301T000000Z", "20250310T090000Z", "20260101T000000Z", spoiler.chance.choice(TIMES)))]
-    return Case(["agenda", "calendar", ROOM, *words, *spoiler.chance.choice(([], ["--free"]))], files={"calendar": spoiler.spoiled("calendar", spoiler.chance.choice((0, 1, None)))})
+    return Case(["agenda", "calendar", ROOM, *words, *spoiler.chance.choice(([], ["--free"], ["--ics"], ["--zone=-0500 -0400 11 1SU 0200 3 2SU 0200"]))],
+                files={"calendar": spoiler.spoiled("calendar", spoiler.chance.choice((0, 1, None)))})
 
 
 def words_case(spoiler):
@@ -520,8 +521,8 @@ def listed_statuses():
 
 def said_as_listed(ended, case):
     """Whether standard error has what the guide says of the status."""
-    forms = {2: rb"error: .*", 3: rb"roombox: (refused \d+|too long|differs [\x21-\x7e]+)\n", 4: rb"roombox: device\n", 5: rb"roombox: memory\n"}
-    report = rb"(roombox: object \d+: [^\n]*\n)*" if case.words[:1] == ["adapt"] else rb"roombox: \d+ objects?, .*\n"
+    forms = {2: rb"error: .*", 3: rb"(roombox: object \d+: [ -~]*\n)*roombox: (refused \d+|too long|differs [\x21-\x7e]+)\n(roombox: [ -~]+\n)?", 4: rb"(roombox: object \d+: [ -~]*\n)*roombox: device\n(roombox: [ -~]+\n)*", 5: rb"roombox: memory\n"}
+    report = rb"(roombox: object \d+: [^\n]*\n)*" if case.words[:1] == ["adapt"] else rb"(roombox: object \d+: [ -~]*\n)*roombox: \d+ objects?, [^\n]*\n"
     form = report if ended.status == 0 and "--report" in case.words else rb""
     return re.fullmatch(forms.get(ended.status, form), ended.said, re.DOTALL)
 

@@ -1,4 +1,4 @@
-"""Tries the statements of docs/PROFILE.md with the program.
+"""Tries the statements of docs/GUIDE.md and docs/REFERENCE.md with the program, and the links of all documents.
 
     python3 tests/guide.py bin/roombox
 
@@ -6,6 +6,7 @@ Each case says what the guide says, what goes in, and what has to come out; what
 the program's output. It prints each case that fails, and ends with 1 where one did.
 """
 
+import re
 import shutil
 import subprocess
 import sys
@@ -74,23 +75,36 @@ class Cases:
 
 
 def preambles(cases, program):
-    for what, text in [
-        ("no now", ROOM + "\n"), ("two of now", NOW + NOW + ROOM + "\n"), ("no room", NOW + "\n"), ("one room twice", NOW + ROOM + ROOM + "\n"),
-        ("the room twice in another case", NOW + ROOM + "room MAILTO:R1@EXAMPLE.COM\n\n"), ("two spaces", NOW + "room  mailto:r1@example.com\n\n"),
-        ("a space behind", NOW + "room mailto:r1@example.com \n\n"), ("upper case", "NOW 20250102T000000Z\n" + ROOM + "\n"),
-        ("a comment", "# rooms\n" + NOW + ROOM + "\n"), ("a byte order mark", "\ufeff" + NOW + ROOM + "\n"), ("an empty line first", "\n" + NOW + ROOM + "\n"),
-        ("no empty line", NOW + ROOM), ("one organiser twice", NOW + ROOM + ANN + ANN + "\n"), ("257 organisers", NOW + ROOM + "".join(f"organiser mailto:o{n}@example.com\n" for n in range(257)) + "\n"), ("nothing", ""),
-        ("65 rooms", NOW + "".join(f"room mailto:r{n}@example.com\n" for n in range(65)) + "\n"),
+    again, nameless = "a line before it names this {}", "it has no address such as mailto:r1@example.com"
+    unknown = "it doesn't begin with `now `, `room `, `zone ` or `organiser `"
+    for what, text, why in [
+        ("no now", ROOM + "\n", "no line is `now` and a time"), ("two of now", NOW + NOW + ROOM + "\n", "line 2: it is a second `now`: now 20250102T000000Z"),
+        ("no room", NOW + "\n", "no line names a room or an organiser"), ("one room twice", NOW + ROOM + ROOM + "\n", f"line 3: {again.format('room')}: room {R1}"),
+        ("the room twice in another case", NOW + ROOM + "room MAILTO:R1@EXAMPLE.COM\n\n", f"line 3: {again.format('room')}: room MAILTO:R1@EXAMPLE.COM"),
+        ("two spaces", NOW + f"room  {R1}\n\n", f"line 2: {nameless}: room  {R1}"), ("a space behind", NOW + f"room {R1} \n\n", f"line 2: {nameless}: room {R1} "),
+        ("a local time", "now 20250102T000000\n" + ROOM + "\n", "line 1: behind `now ` is no time such as 20250102T000000Z: now 20250102T000000"),
+        ("upper case", "NOW 20250102T000000Z\n" + ROOM + "\n", f"line 1: {unknown}: NOW 20250102T000000Z"), ("a comment", "# rooms\n" + NOW + ROOM + "\n", f"line 1: {unknown}: # rooms"),
+        ("a byte order mark", "\ufeff" + NOW + ROOM + "\n", f"line 1: {unknown}: %EF%BB%BFnow 20250102T000000Z"), ("an empty line first", "\n" + NOW + ROOM + "\n", "no line names a room or an organiser"),
+        ("no empty line", NOW + ROOM, "line 3: no empty line stands before the first object: BEGIN:VCALENDAR"),
+        ("one organiser twice", NOW + ROOM + ANN + ANN + "\n", f"line 4: {again.format('organiser')}: organiser mailto:ann@example.com"),
+        ("257 organisers", NOW + ROOM + "".join(f"organiser mailto:o{n}@example.com\n" for n in range(257)) + "\n", "line 259: it is one organiser more than 256: organiser mailto:o256@example.com"),
+        ("nothing", "", "line 1: no empty line stands before the first object: BEGIN:VCALENDAR"),
+        ("65 rooms", NOW + "".join(f"room mailto:r{n}@example.com\n" for n in range(65)) + "\n", "line 66: it is one room more than 64: room mailto:r64@example.com"),
     ]:
         # where the preamble has no end, the object is taken as part of it
-        found = run(program, given=text + request())
-        cases.holds(f"preamble with {what}", (found[0], found[1], found[2]), (3, "", "roombox: refused 90\n"))
-    for what, lines in [
-        ("two zones of one room", f"zone {R1} -0500\nzone {R1} +0100\n"), ("the same zone twice", f"zone {R1} {YORK}\nzone {R1} {YORK}\n"), ("a zone of no room", "zone mailto:r2@example.com -0500\n"),
-        ("a zone of an organiser", ANN + "zone mailto:ann@example.com -0500\n"), ("words of no zone", f"zone {R1} America/New_York\n"), ("a zone without words", f"zone {R1}\n"), ("two spaces before words", f"zone {R1}  -0500\n"),
+        cases.holds(f"preamble with {what}", run(program, given=text + request()), (3, "", f"roombox: refused 90\nroombox: {why}\n"))
+    twice, none, meaningless = "a line before it gives this room a zone", "no line names this room", "behind the address are no words that mean a zone"
+    for what, lines, why in [
+        ("two zones of one room", f"zone {R1} -0500\nzone {R1} +0100\n", f"line 4: {twice}: zone {R1} +0100"), ("the same zone twice", f"zone {R1} {YORK}\nzone {R1} {YORK}\n", f"line 4: {twice}: zone {R1} {YORK}"),
+        ("a zone of no room", "zone mailto:r2@example.com -0500\n", f"line 3: {none}: zone mailto:r2@example.com -0500"), ("a zone of an organiser", ANN + "zone mailto:ann@example.com -0500\n", f"line 4: {none}: zone mailto:ann@example.com -0500"),
+        ("words of no zone", f"zone {R1} America/New_York\n", f"line 3: {meaningless}: zone {R1} America/New_York"), ("a zone without words", f"zone {R1}\n", f"line 3: {meaningless}: zone {R1}"),
+        ("two spaces before words", f"zone {R1}  -0500\n", f"line 3: {meaningless}: zone {R1}  -0500"),
     ]:
-        found = run(program, given=NOW + ROOM + lines + "\n" + request())
-        cases.holds(f"preamble with {what}", (found[0], found[1], found[2]), (3, "", "roombox: refused 90\n"))
+        cases.holds(f"preamble with {what}", run(program, given=NOW + ROOM + lines + "\n" + request()), (3, "", f"roombox: refused 90\nroombox: {why}\n"))
+    cases.holds("preamble that isn't UTF-8", run(program, given=(NOW + ROOM).encode() + b"room \xff\n\n"), (3, "", "roombox: refused 90\nroombox: the preamble isn't UTF-8\n"))
+    cases.holds("no preamble", run(program), (3, "", "roombox: refused 90\nroombox: there is no preamble\n"))
+    long = NOW + ROOM + "".join(f"organiser mailto:{'o' * 400}{n}@example.com\n" for n in range(200))
+    cases.holds("preamble of more than 65536 octets", run(program, given=long + "\n" + request()), (3, "", "roombox: refused 90\nroombox: no empty line is among the first 65536 octets\n"))
     cases.holds("64 rooms", answers(program, request(room="mailto:r63@example.com"), preamble=NOW + "".join(f"room mailto:r{n}@example.com\n" for n in range(64)) + "\n"), ["ACCEPTED"])
     cases.holds("CRLF in the preamble", answers(program, request(), preamble=PREAMBLE.replace("\n", "\r\n")), ["ACCEPTED"])
     cases.holds("empty lines between objects", answers(program, request(), "\r\n\r\n", request("b", start="20250310T100000Z", lines=("DURATION:PT1H",))), ["ACCEPTED", "ACCEPTED"])
@@ -273,7 +287,7 @@ def kept(cases, program):
         cases.holds("CRLF in a certificate", run(program, "check", calendar, certificate, R1)[:2], (1, "no 81 1\n"))
         calendar.write_text("no calendar", newline="")
         cases.holds("no calendar", run(program, "check", calendar, certificate, R1)[:2], (1, "no 80\n"))
-        cases.holds("keep of a room that isn't hosted", run(program, "keep", "mailto:r2@example.com", given=stream), (3, "", "roombox: refused 90\n"))
+        cases.holds("keep of a room that isn't hosted", run(program, "keep", "mailto:r2@example.com", given=stream), (3, "", "roombox: refused 90\nroombox: the preamble doesn't name the room mailto:r2@example.com\n"))
 
 
 def zones(cases, program):
@@ -343,7 +357,7 @@ def dated(uid="a", date="20250310", lines=(), sequence=0, slot=None, method="REQ
 
 
 def whole_days(cases, program):
-    """The section "Whole days and times without zone": rooms, which go by UTC."""
+    """The section "Forms of time" of the reference: rooms, which go by UTC."""
     def tried(what, wanted, *objects):
         cases.holds(what, answers(program, *objects), wanted)
 
@@ -585,20 +599,27 @@ def kept_series(cases, program):
     cases.holds("version 2 without a group", judged(beside.replace("ROOMCERT 1", "ROOMCERT 2").replace("1 2 RES 86400", "1 2 SPAN 20250313T000000Z 1"), recurring(), before), "yes\n")
 
 
-def numbers_of_guide():
-    """The numbers in the tables of docs/PROFILE.md, of refusals and of the checker's no."""
-    text = (ROOT / "docs" / "PROFILE.md").read_text(encoding="utf-8")
-    rows = [line.split("|")[1] for line in text.splitlines() if line.startswith("| ") and line.count("|") == 4]
-    return {int(word) for row in rows for word in row.replace(" and a number", "").replace(" and two numbers", "").replace(",", " ").split() if word.isdigit()}
+def numbers_of_reference():
+    """Of each number in the table of docs/REFERENCE.md what `explain` has to print."""
+    table = (ROOT / "docs" / "REFERENCE.md").read_text(encoding="utf-8").partition("<!-- table: bench/user_tables.py refusals -->")[2].partition("<!-- end of table -->")[0]
+    rows = [[cell.strip() for cell in line.split("|")[1:-1]] for line in table.splitlines() if line[:3].strip("| ").isdigit()]
+    return {int(number): f"{number}: {meaning}. What to do: {advice}.\n" for number, meaning, advice in rows}
 
 
 def explained(cases, program):
-    known = numbers_of_guide()
-    cases.holds("the numbers of the guide are explained", {n for n in range(256) if run(program, "explain", str(n))[0] == 0}, known)
-    cases.holds("a line for each begins with its number", [n for n in sorted(known) if not run(program, "explain", str(n))[1].startswith(f"{n}: ")], [])
-    cases.holds("another number is a usage fault", run(program, "explain", "45")[:2], (2, ""))
-    cases.holds("so is one that is gone", run(program, "explain", "55")[:2], (2, ""))
+    found = {number: run(program, "explain", str(number)) for number in range(256)}
+    cases.holds("the table of numbers is what is explained", {number: text for number, (status, text, _) in found.items() if status == 0}, numbers_of_reference())
+    cases.holds("the first and the last of each kind are among them", [number for number in (1, 6, 10, 16, 20, 25, 30, 34, 40, 44, 50, 57, 60, 67, 70, 73, 80, 84, 90) if number not in numbers_of_reference()], [])
+    cases.holds("another number is a usage fault", found[45][:2], (2, ""))
+    cases.holds("so is one that is gone", found[55][:2], (2, ""))
     cases.holds("so is a word", run(program, "explain", "no")[:2], (2, ""))
+    for pasted in ["REFUSED;OBJECT=3:43", "REFUSED;OBJECT=3:43\r", "roombox: refused 43", " 43 "]:
+        cases.holds(f"a pasted line: {pasted!r}", run(program, "explain", pasted), run(program, "explain", "43"))
+    cases.holds("a pasted answer of the checker", run(program, "explain", "no 83 1 2"), run(program, "explain", "83"))
+    cases.holds("a pasted line without a number", run(program, "explain", "REFUSED;OBJECT=3")[:2], (2, ""))
+    for number, said, unsaid in [("15", 'CN="Room: 3"', "x"), ("15", "1024 octets", "x"), ("20", "END:VEVENT", "without its BEGIN"), ("30", "DAILY, WEEKLY, MONTHLY and YEARLY", "leave it out"), ("30", "`;`", "x")]:
+        text = run(program, "explain", number)[1]
+        cases.holds(f"explain {number} says {said}", (said in text, unsaid in text.replace("x", "")), (True, False))
 
 
 # An object that isn't refused, a content line each; the line of number n is OBJECT[n - 1].
@@ -667,9 +688,21 @@ def explained_objects(cases, program):
         ("a store of an instance by its date", "57 at line 9: RECURRENCE-ID", {3: "", 10: "RECURRENCE-ID;VALUE=DATE:20250310"}),
         ("a period", "56 at line 11: RDATE", {10: "DURATION:PT1H|RDATE;VALUE=PERIOD:20250311T090000Z/PT1H"}),
         ("PUBLISH", "60 at line 3: METHOD", {3: "METHOD:PUBLISH"}),
-        ("no UID", "61", {5: ""}),
-        ("UID twice", "61", {5: "UID:a|UID:a"}),
-        ("no ORGANIZER", "63", {7: ""}),
+        ("no UID", "61 at line 4: BEGIN\nVEVENT at line 4: it has no UID.", {5: ""}),
+        ("UID twice", "61 at line 6: UID\nVEVENT at line 4: UID occurs twice in it.", {5: "UID:a|UID:a"}),
+        ("no DTSTAMP", "61 at line 4: BEGIN\nVEVENT at line 4: it has no DTSTAMP.", {6: ""}),
+        ("no DTSTART", "61 at line 4: BEGIN\nVEVENT at line 4: it has no DTSTART.", {9: ""}),
+        ("DTEND beside DURATION", "61 at line 11: DURATION\nVEVENT at line 4: DURATION stands beside DTEND in it.", {10: "DTEND:20250310T100000Z|DURATION:PT1H"}),
+        ("DTSTART twice in the second VEVENT", "61 at line 19: DTSTART\nvevent at line 12: DTSTART occurs twice in it.", {11: "|".join(["END:VEVENT", "BEGIN:vevent", *OBJECT[4:8], "RECURRENCE-ID:20250310T090000Z", "DTSTART:20250310T100000Z", "DTSTART:20250310T100000Z", "END:VEVENT"])}),
+        ("no ORGANIZER", "63 at line 4: BEGIN\nVEVENT at line 4: it has no ORGANIZER.", {7: ""}),
+        ("no END:VEVENT", "20 at line 11: END", {11: ""}),
+        ("no BEGIN:VEVENT", "20 at line 10: END", {4: ""}),
+        ("a blank behind BEGIN:VCALENDAR", "23 at line 1: BEGIN", {1: "BEGIN:VCALENDAR "}),
+        ("a VCALENDAR inside it", "23 at line 4: BEGIN", {4: "BEGIN:VCALENDAR|BEGIN:VEVENT"}),
+        ("nine components inside one another", "22 at line 12: BEGIN", {5: "UID:a" + "".join(f"|BEGIN:X-{n}" for n in range(7)) + "".join(f"|END:X-{n}" for n in range(6, -1, -1))}),
+        ("CN with a colon and no quotes", "15 at line 7: ORGANIZER", {7: "ORGANIZER;CN=Room: 3:mailto:ann@example.com"}),
+        ("another frequency", "30 at line 11: RRULE", {10: "DURATION:PT1H|RRULE:FREQ=FORTNIGHTLY"}),
+        ("a rule with a semicolon at its end", "30 at line 11: RRULE", {10: "DURATION:PT1H|RRULE:FREQ=DAILY;COUNT=2;"}),
         ("RANGE", "65 at line 11: RECURRENCE-ID", {10: "DURATION:PT1H|RECURRENCE-ID;RANGE=THISANDFUTURE:20250310T090000Z"}),
         ("no VEVENT", "66", dict.fromkeys(range(4, 12), "")),
         ("RRULE beside RECURRENCE-ID", "67 at line 12: RRULE", {10: slot + "|RRULE:FREQ=DAILY"}),
@@ -700,7 +733,7 @@ def explained_objects(cases, program):
         said = run(program, "explain", given=changed(changes))[1].partition("\n")[0]
         cases.holds(f"explain never names a wrong line: {what} ({said})", said in (f"refused {wanted}", f"refused {wanted.partition(' ')[0]}"), True)
     if shutil.which("awk"):
-        recipe = next(line for line in (ROOT / "docs" / "PROFILE.md").read_text(encoding="utf-8").splitlines() if line.startswith("    awk "))
+        recipe = next(line for line in (ROOT / "docs" / "GUIDE.md").read_text(encoding="utf-8").splitlines() if line.startswith("    awk "))
         stream = (PREAMBLE + changed({}) + "\r\n" + changed({5: "UID:b"}) + changed({9: "DTSTART;TZID=Z:20250310T090000"}) + changed({5: ""})).encode()
         cut = subprocess.run(["sh", "-c", recipe.partition(" stream |")[0]], input=stream, capture_output=True).stdout
         cases.holds("the recipe that cuts out the third object", cut.decode(), changed({9: "DTSTART;TZID=Z:20250310T090000"}))
@@ -710,24 +743,44 @@ def explained_objects(cases, program):
 
 
 def reported(cases, program):
-    """`serve --report`: a line on standard error at the end, and standard output as without it."""
+    """`serve --report`: lines on standard error, for each object that came to nothing and at the end, and standard output as without it."""
     good, zone, twice = changed({}), changed({9: "DTSTART;TZID=Z:20250310T090000"}), changed({5: "UID:a|UID:a"})
-    for what, objects, wanted in [
-        ("no object", [], "0 objects, 0 refused"),
-        ("none refused", [good, good], "2 objects, 0 refused"),
-        ("three refused", [zone, good, twice, zone, good], "5 objects, 3 refused (43: 2, 61: 1)"),
-        ("one object", [zone], "1 object, 1 refused (43: 1)"),
-        ("all refused", [twice, twice], "2 objects, 2 refused (61: 2)"),
-        ("the numbers in their order", [changed({7: ""}), twice, zone, changed({10: "DURATION:1H"})], "4 objects, 4 refused (12: 1, 43: 1, 61: 1, 63: 1)"),
-        ("a refusal by an organiser's state", [changed({3: "METHOD:REPLY"}), good], "2 objects, 1 refused (70: 1)"),
-        ("a decline isn't a refusal", [good, changed({5: "UID:b"})], "2 objects, 0 refused"),
+    known = ", UID a, ORGANIZER mailto:ann@example.com"
+    long = "u" * 1025
+    for what, objects, nothing, wanted in [
+        ("no object", [], [], "0 objects, 0 refused"),
+        ("none refused", [good, good], ["2: changed nothing, REQUEST" + known], "2 objects, 0 refused"),
+        ("three refused", [zone, good, twice, zone, good], ["1: refused 43, REQUEST" + known, "3: refused 61, REQUEST" + known, "4: refused 43, REQUEST" + known, "5: changed nothing, REQUEST" + known],
+         "5 objects, 3 refused (43: 2, 61: 1)"),
+        ("one object", [zone], ["1: refused 43, REQUEST" + known], "1 object, 1 refused (43: 1)"),
+        ("all refused", [twice, twice], ["1: refused 61, REQUEST" + known, "2: refused 61, REQUEST" + known], "2 objects, 2 refused (61: 2)"),
+        ("the numbers in their order", [changed({7: ""}), twice, zone, changed({10: "DURATION:1H"})],
+         ["1: refused 63, REQUEST, UID a", "2: refused 61, REQUEST" + known, "3: refused 43, REQUEST" + known, "4: refused 12, REQUEST" + known], "4 objects, 4 refused (12: 1, 43: 1, 61: 1, 63: 1)"),
+        ("a refusal by an organiser's state", [changed({3: "METHOD:REPLY"}), good], ["1: refused 70, REPLY" + known], "2 objects, 1 refused (70: 1)"),
+        ("a store of an organiser who isn't hosted", [changed({3: ""})], ["1: refused 70" + known], "1 object, 1 refused (70: 1)"),
+        ("a decline isn't a refusal", [good, changed({5: "UID:b"})], [], "2 objects, 0 refused"),
+        ("another room", [changed({8: "ATTENDEE:mailto:r9@example.com"}), good], ["1: reached no room, REQUEST" + known], "2 objects, 0 refused"),
+        ("a CANCEL by another organiser", [good, changed({3: "METHOD:CANCEL", 7: "ORGANIZER:mailto:eve@example.com", 6: "DTSTAMP:20250102T000000Z"})], [], "2 objects, 0 refused"),
+        ("an older REQUEST", [changed({5: "UID:a|SEQUENCE:1"}), good], ["2: stale, REQUEST" + known], "2 objects, 0 refused"),
+        ("a CANCEL, and again", [good, changed({3: "METHOD:CANCEL", 5: "UID:a|SEQUENCE:1"}), changed({3: "METHOD:CANCEL", 5: "UID:a|SEQUENCE:1"})], ["3: changed nothing, CANCEL" + known], "3 objects, 0 refused"),
+        ("a long UID", [changed({5: "UID:" + long})], ["1: refused 14, REQUEST, UID " + "u" * 200 + ".., ORGANIZER mailto:ann@example.com"], "1 object, 1 refused (14: 1)"),
+        ("a control octet in UID", [changed({5: "UID:a\x07b%"})], ["1: refused 4, REQUEST, UID a%07b%25, ORGANIZER mailto:ann@example.com"], "1 object, 1 refused (4: 1)"),
+        ("a folded ORGANIZER with a quoted colon", [changed({7: 'ORGANIZER;CN="A: b":mailto:an| n@example.com', 9: "DTSTART:x"})], ["1: refused 11, REQUEST" + known], "1 object, 1 refused (11: 1)"),
+        ("no line that is one", ["no object\r\nEND:VCALENDAR\r\n"], ["1: refused 1"], "1 object, 1 refused (1: 1)"),
     ]:
         stream = PREAMBLE + "".join(objects)
         without = run(program, "serve", given=stream)
         cases.holds(f"without a report, {what}", (without[0], without[2]), (0, ""))
-        cases.holds(f"a report of {what}", run(program, "serve", "--report", given=stream), (0, without[1], f"roombox: {wanted}\n"))
-    cases.holds("no report of a stream that ends early", run(program, "serve", "--report", given="now\n\n" + good), (3, "", "roombox: refused 90\n"))
-    cases.holds("no report of nothing", run(program, "serve", "--report"), (3, "", "roombox: refused 90\n"))
+        lines = "".join(f"roombox: object {line}\n" for line in nothing)
+        cases.holds(f"a report of {what}", run(program, "serve", "--report", given=stream), (0, without[1], f"{lines}roombox: {wanted}\n"))
+    two = PREAMBLE.replace("\n\n", "\nroom mailto:r2@example.com\n\n")
+    both = changed({8: "ATTENDEE:mailto:r1@example.com|ATTENDEE:mailto:r2@example.com"})
+    newer = changed({5: "UID:a|SEQUENCE:1"})
+    cases.holds("old for one room and new for another isn't nothing", run(program, "serve", "--report", given=two + newer + both)[2], "roombox: 2 objects, 0 refused\n")
+    cases.holds("known in one room and old in another changes nothing", run(program, "serve", "--report", given=two + both + newer + both)[2], f"roombox: object 3: changed nothing, REQUEST{known}\nroombox: 3 objects, 0 refused\n")
+    unknown = "it doesn't begin with `now `, `room `, `zone ` or `organiser `"
+    cases.holds("no report of a stream that ends early", run(program, "serve", "--report", given="now\n\n" + good), (3, "", f"roombox: refused 90\nroombox: line 1: {unknown}: now\n"))
+    cases.holds("no report of nothing", run(program, "serve", "--report"), (3, "", "roombox: refused 90\nroombox: there is no preamble\n"))
 
 
 def command_line(cases, program):
@@ -744,7 +797,7 @@ def command_line(cases, program):
     cases.holds("the statuses of the help", [int(number) for number, _ in top.statuses()], [0, 1, 2, 3, 4, 5])
     for name, help in commands.items():
         text = "\n".join(line for lines in help.paragraphs for line in lines)
-        cases.holds(f"the help of {name} says its statuses, where the numbers are, and an example", [part in text for part in ("Exit status: 0 ", "docs/PROFILE.md", "Example: roombox ")], [True] * 3)
+        cases.holds(f"the help of {name} says its statuses, where the numbers are, and an example", [part in text for part in ("Exit status: 0 ", "docs/REFERENCE.md", "Example: roombox ")], [True] * 3)
     cases.holds("the man page is made from the help (make man)", (ROOT / "docs" / "roombox.1").read_text(encoding="utf-8"), man_page.man_page(program))
     script = ROOT / "docs" / "roombox.bash"
     cases.holds("so is the completion", script.read_text(encoding="utf-8"), man_page.completion(program))
@@ -760,7 +813,7 @@ def command_line(cases, program):
 
 def logged(cases, program):
     # what came on each day, the first file without a line break at its end; the guide's own line appends it to the log
-    recipe = next(line.strip() for line in (ROOT / "docs" / "PROFILE.md").read_text().splitlines() if line.endswith(">> log"))
+    recipe = next(line.strip() for line in (ROOT / "docs" / "GUIDE.md").read_text(encoding="utf-8").splitlines() if line.endswith(">> log"))
     days = [
         {"1.ics": request().removesuffix("\r\n")},
         {"1.ics": request("b", start="20250310T093000Z", lines=("DURATION:PT1H",)), "2.ics": request("c", start="20250310T120000Z", lines=("DURATION:PT1H",)).removesuffix("\n")},
@@ -855,9 +908,33 @@ def organisers(cases, program):
         "ATTENDEE;PARTSTAT=NEEDS-ACTION;RSVP=TRUE:mailto:r1@example.com", "END:VEVENT", "END:VCALENDAR", ""])
 
 
+def anchors_of(text):
+    """The names by which a page's headings are linked to: in lower case, without punctuation, a hyphen for each space."""
+    headings = re.findall(r"^#+ (.*)$", re.sub(r"^```.*?^```", "", text, flags=re.DOTALL | re.MULTILINE), re.MULTILINE)
+    return [re.sub(r"[^\w\- ]", "", it.lower()).replace(" ", "-") for it in headings]
+
+
+def documents(cases, program):
+    """The links of the documents, the reply that README shows, and the tables that scripts write for users."""
+    pages = [ROOT / "README.md", ROOT / "CHANGELOG.md", *sorted((ROOT / "docs").glob("*.md")), *sorted((ROOT / "examples").glob("*/README.md"))]
+    texts = {page: page.read_text(encoding="utf-8") for page in pages}
+    for page, text in texts.items():
+        links = [it.partition("#") for it in re.findall(r"\]\(([^)\s]+)\)", text) if "://" not in it]
+        aims = [((page.parent / name).resolve() if name else page, anchor) for name, _, anchor in links]
+        cases.holds(f"what {page.relative_to(ROOT)} links to is there", sorted(str(aim) for aim, _ in aims if not aim.exists()), [])
+        cases.holds(f"the anchors that {page.relative_to(ROOT)} links to are there", sorted(f"{aim.name}#{anchor}" for aim, anchor in aims if anchor and anchor not in anchors_of(texts.get(aim, ""))), [])
+        cases.holds(f"no two headings of {page.relative_to(ROOT)} are one anchor", sorted({it for it in anchors_of(text) if anchors_of(text).count(it) > 1}), [])
+    first = texts[ROOT / "README.md"].splitlines()[:40]
+    shown = [line.strip() for line in first if line.startswith("    ") and not line.strip().startswith(("$", "make"))]
+    replied = iter((ROOT / "examples" / "first-request.replies").read_text(encoding="utf-8").splitlines())
+    cases.holds("the first screen of README shows the first reply, in its order", ("METHOD:REPLY" in shown, [line for line in shown if line != ".." and line not in replied]), (True, []))
+    made = subprocess.run([sys.executable, ROOT / "bench" / "user_tables.py", "--check"], capture_output=True, text=True)
+    cases.holds("the tables for users are made from their sources (bench/user_tables.py)", (made.returncode, made.stderr), (0, ""))
+
+
 def main():
     program, cases = str(Path(sys.argv[1]).resolve()), Cases()
-    for part in (preambles, decisions, instances, added, replies, refusals, kept, zones, times_in_zones, whole_days, rooms_in_zones, rooms_of_a_zone, series, kept_series, organisers, explained, explained_objects, reported, command_line, logged, examples):
+    for part in (preambles, decisions, instances, added, replies, refusals, kept, zones, times_in_zones, whole_days, rooms_in_zones, rooms_of_a_zone, series, kept_series, organisers, explained, explained_objects, reported, command_line, logged, examples, documents):
         part(cases, program)
     print(f"{cases.count} cases, {cases.failed} failed")
     return 1 if cases.failed else 0

@@ -21,7 +21,7 @@ PROGRAM = str(Path(sys.argv[1] if len(sys.argv) > 1 else ROOT / "bin" / "roombox
 FIRST = "share/doc/roombox/examples/first-request"
 # what the first day needs, below the prefix
 NEEDED = ["bin/roombox", "share/bash-completion/completions/roombox", f"{FIRST}.ics-stream", f"{FIRST}.replies", "share/doc/roombox/README.md",
-          "share/doc/roombox/docs/PROFILE.md", "share/doc/roombox/docs/OPERATING.md", "share/doc/roombox/examples/mail/roombox_mail.py",
+          "share/doc/roombox/docs/GUIDE.md", "share/doc/roombox/docs/REFERENCE.md", "share/doc/roombox/docs/OPERATING.md", "share/doc/roombox/examples/mail/roombox_mail.py",
           "share/doc/roombox/examples/systemd/roombox-box@.service"]
 UNITS = sorted(path.name for path in (ROOT / "examples" / "systemd").glob("*@.*"))
 

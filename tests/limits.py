@@ -2,7 +2,7 @@
 
     python3 tests/limits.py bin/roombox
 
-What has to come out is said in docs/PROFILE.md: each beginning of an object is refused, unless it is whole but for its last line break; a room takes 10,000
+What has to come out is said in docs/REFERENCE.md: each beginning of an object is refused, unless it is whole but for its last line break; a room takes 10,000
 single instances and no more; a stream of more than 1,073,741,824 octets is too long. It prints each case that fails, and ends with 1 where one did. The
 other limits are rows of the example programs: 64 series, 1,048,576 octets, 201 VEVENTs, components nine deep.
 """

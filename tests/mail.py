@@ -4,7 +4,7 @@ invitations, faults and who is told of them, and runs that are stopped.
     python3 tests/mail.py bin/roombox [FOLDER]
 
 tests/mails/ has the eight mails, each beside the object that it brings. What is expected was written by hand, from RFC 5546, RFC 6047, RFC 3834 and
-docs/PROFILE.md, and never from what came out. FOLDER is where the folders of the tests are made; if none is given, it is memory, since each
+docs/GUIDE.md, and never from what came out. FOLDER is where the folders of the tests are made; if none is given, it is memory, since each
 mail is synced several times. A test that needs strace says so and is left out if there is none. It prints each case that fails, and ends with 1 if
 one did.
 """

@@ -1,4 +1,4 @@
-"""Random conversations of organisers, answered by the program and by a small model that was written from docs/PROFILE.md and the RFCs alone.
+"""Random conversations of organisers, answered by the program and by a small model that was written from docs/REFERENCE.md and the RFCs alone.
 
     python3 tests/organisers_by_model.py bin/roombox [--streams 500] [--seed 1]
     python3 tests/organisers_by_model.py --table N          # prints N cases of what organisers show, for crates/worked_examples/data/organisers.txt,

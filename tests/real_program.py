@@ -2,7 +2,7 @@
 
     python3 tests/real_program.py bin/roombox
 
-What has to come out is said in docs/PROFILE.md: status 4 and `roombox: device` where a device failed, and so on. Ends with 1 where something
+What has to come out is said in docs/REFERENCE.md: status 4 and `roombox: device` where a device failed, and so on. Ends with 1 where something
 else came out.
 """
 
@@ -32,9 +32,9 @@ def expect(name, found, wanted):
 
 
 def ended(program, words, stdin, stdout=subprocess.PIPE):
-    """The status and the standard error of a run."""
+    """The status and the first line on standard error of a run; tests/reports.py looks at the reasons behind it."""
     run = subprocess.run([program, *words], input=stdin.encode(), stdout=stdout, stderr=subprocess.PIPE, check=False)
-    return run.returncode, run.stderr.decode()
+    return run.returncode, "".join(run.stderr.decode().splitlines(keepends=True)[:1])
 
 
 def full_disk(program, calendar, certificate):

@@ -1,4 +1,4 @@
-"""Random schedules, played by the program and by a simulation that was written from what was asked for and docs/PROFILE.md: it keeps all messages, and at
+"""Random schedules, played by the program and by a simulation that was written from what was asked for and docs/REFERENCE.md: it keeps all messages, and at
 each step computes every book anew from what its owner took.
 
     python3 tests/schedules_by_model.py bin/schedule_examples [--schedules 10000] [--seed 1] [--jobs 2]

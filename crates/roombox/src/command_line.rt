@@ -1,12 +1,12 @@
 //! The words of the command line (clap reads them).
 
-use crate::agenda::Agenda;
+use crate::agenda::{Agenda, Form};
 use clap::error::ErrorKind;
 use clap::{Arg, ArgAction, ArgMatches, Command, Error};
 use sched_cli::commands::KeptText;
 use std::alloc::{AllocError, Global};
 
-/// What a command line asks for. ROOM, N and NUMBER are still words here; CALENDAR, CERTIFICATE, CONFIG, INBOX, OUTBOX,
+/// What a command line asks for. ROOM, ORGANISER, N and NUMBER are still words here; CALENDAR, CERTIFICATE, CONFIG, INBOX, OUTBOX,
 /// ORIGINAL and FILE are paths.
 #[derive(Clone, Copy)]
 pub enum Invocation<'a> {
@@ -17,6 +17,10 @@ pub enum Invocation<'a> {
     Keep {
         room: &'a str,
         kept: KeptText,
+        reading: Reading<'a>,
+    },
+    Meetings {
+        organiser: &'a str,
         reading: Reading<'a>,
     },
     Adapt {
@@ -45,6 +49,7 @@ pub enum Invocation<'a> {
         config: &'a str,
         inbox: &'a str,
         outbox: &'a str,
+        report: bool,
         reading: Reading<'a>,
     },
 }
@@ -72,7 +77,7 @@ Exit status:
   4  a device failed
   5  out of memory
 
-`roombox explain NUMBER` says what the number of a refusal means; docs/PROFILE.md lists all.";
+`roombox explain NUMBER` says what the number of a refusal means; docs/REFERENCE.md lists all.";
 
 const SERVE: &str =
     "Reads a preamble and objects, and writes the replies of rooms and what organisers send.";
@@ -92,7 +97,7 @@ have METHOD REQUEST, ADD or CANCEL; for organisers REPLY, REFRESH, or none: a me
 
 Output: the objects that are sent, and for the k-th object, where it is refused, a line
   REFUSED;OBJECT=k:n
-`roombox explain n` says what the number n means; docs/PROFILE.md lists all.
+`roombox explain n` says what the number n means; docs/REFERENCE.md lists all.
 
 Exit status: 0 done, also where objects were refused; 2 usage; 3 the preamble is refused (90),
 FILE is refused, or the input is too long; 4 a device failed; 5 out of memory.
@@ -105,7 +110,7 @@ const KEEP: &str =
 const KEEP_MORE: &str = "\
 Input: a preamble and objects, as for `roombox serve`.
 
-Output: an iCalendar object, or the lines of a certificate; docs/PROFILE.md has their form, and
+Output: an iCalendar object, or the lines of a certificate; docs/REFERENCE.md has their form, and
 lists the numbers of refusals.
 
 Exit status: 0 done, also where objects were refused; 2 usage; 3 the preamble is refused or
@@ -114,6 +119,22 @@ memory.
 
 Example: roombox keep mailto:r1@example.com < examples/first-request.ics-stream";
 
+const MEETINGS: &str =
+    "Reads what serve reads, and prints what an organiser has stored after it, with the answers seen.";
+
+const MEETINGS_MORE: &str = "\
+Input: a preamble and objects, as for `roombox serve`.
+
+Output: an iCalendar object for each meeting, by the octets of their UIDs: as it was last sent,
+without METHOD, and of each attendee its answer, as PARTSTAT, with SCHEDULE-STATUS=1.1 where it
+was sent a message. Nothing where none is stored.
+
+Exit status: 0 done, also where objects were refused; 2 usage; 3 the preamble is refused or
+doesn't name ORGANISER (90), FILE is refused, or the input is too long; 4 a device failed; 5 out
+of memory. docs/REFERENCE.md lists the numbers.
+
+Example: roombox meetings mailto:ann@example.com < examples/organiser-conversation.ics-stream";
+
 const CHECK: &str =
     "Prints yes where a certificate shows that no two confirmed instances of a room share an instant.";
 
@@ -121,14 +142,15 @@ const CHECK_MORE: &str = "\
 Input: the two files that `roombox keep` prints. Standard input isn't read.
 
 Output: `yes`, or `no` and a number from 80 to 84; after 81 the wrong line of the certificate,
-after 83 two series. `roombox explain 82` says what 82 means; docs/PROFILE.md lists all.
+after 83 two series. `roombox explain 82` says what 82 means; docs/REFERENCE.md lists all.
 
 Exit status: 0 yes; 1 no; 2 usage; 3 a file is too long; 4 a device failed, as where a file
 isn't there; 5 out of memory.
 
 Example: roombox check kept.ics kept.cert mailto:r1@example.com";
 
-const AGENDA: &str = "Prints what a room has confirmed in a span of time, or when it is free.";
+const AGENDA: &str =
+    "Prints what a room has confirmed in a span of time, or when it is free: as lines, or as iCalendar.";
 
 const AGENDA_MORE: &str = "\
 Input: a calendar that `roombox keep` prints. Standard input isn't read.
@@ -138,8 +160,14 @@ UID, its organiser; by start. With --free a line for each span in which nothing 
 start and its end. A stamp is in UTC, as 20250415T070000Z; the span ends before --until. Without
 --from and --until it is all time up to the year 10000, which a series without end fills.
 
+With --zone start and end are followed by the local times of that zone, in the words that `roombox
+expand --help` explains. It only shows them: the calendar names the zone of its room itself.
+
+With --ics, --from and --until it prints an iCalendar object that programs subscribe to, with a
+VEVENT for each instance, all times in UTC also with --zone, and who booked it as SUMMARY.
+
 Exit status: 0 done, and with --free, --from and --until: the whole span is free; 1 with these: it
-isn't; 2 usage; 3 CALENDAR is refused: standard error has the number, which docs/PROFILE.md lists;
+isn't; 2 usage; 3 CALENDAR is refused: standard error has the number, which docs/REFERENCE.md lists;
 or it is too long; 4 a device failed, as where the file isn't there; 5 out of memory.
 
 Example: roombox agenda kept.ics mailto:r1@example.com --from 20250415T120000Z --until \
@@ -158,7 +186,7 @@ of each when in the year it begins: month, weekday from the month's start or end
   roombox expand --zone='-0500 -0400 11 1SU 0200 3 2SU 0200' < examples/whole-day.ics
 
 Exit status: 0 done; 2 usage; 3 the object is refused: standard error has the number, which
-`roombox explain` explains and docs/PROFILE.md lists; 4 a device failed; 5 out of memory.
+`roombox explain` explains and docs/REFERENCE.md lists; 4 a device failed; 5 out of memory.
 
 Example: roombox expand --limit 5 < examples/every-second-tuesday.ics";
 
@@ -173,7 +201,7 @@ and prints the number, the place where one line has the fault, and what the numb
 or what the object is:
   not refused: a REQUEST
 70 to 73 depend on what an organiser has, and 90 on the preamble: an object isn't judged by
-them. docs/PROFILE.md lists all numbers.
+them. docs/REFERENCE.md lists all numbers.
 
 Exit status: 0 explained, or not refused; 1 the object is refused; 2 usage, also where nothing
 has that number; 4 a device failed; 5 out of memory.
@@ -199,7 +227,7 @@ are made from them. On a terminal it says how many files it has read, after each
 
 Exit status: 0 done: each file is answered; 2 usage; 3 CONFIG (90) or FILE is refused, or a
 file of OUTBOX differs from the answer: standard error has its name; 4 a file or a folder can't
-be used; 5 out of memory. docs/PROFILE.md lists all numbers.
+be used; 5 out of memory. docs/REFERENCE.md lists all numbers.
 
 Example: roombox box rooms.conf inbox outbox";
 
@@ -224,7 +252,7 @@ REFUSED. All is read before anything is written. --single takes an object of sev
 
 Exit status: 0 done; 2 usage; 3 FILE or ORIGINAL is refused: standard error has the number; or one,
 or the input with --reply-to, is too long; 4 a device failed, as where a file isn't there; 5 out of
-memory. docs/PROFILE.md lists all numbers.
+memory. docs/REFERENCE.md lists all numbers.
 
 Example: roombox adapt < examples/first-request.ics-stream | roombox serve
 Example: roombox adapt --reply-to invitation.ics < answers";
@@ -237,7 +265,10 @@ const ZONE: &str = "+0000";
 
 const ROOM_HELP: &str = "The room's address, as mailto:r1@example.com";
 
-const NUMBER_HELP: &str = "The number behind REFUSED;OBJECT=k:, `refused` or `no`";
+const ORGANISER_HELP: &str = "The organiser's address, as mailto:ann@example.com";
+
+const NUMBER_HELP: &str =
+    "The number behind REFUSED;OBJECT=k:, `refused` or `no`; or the whole line that has it";
 
 const CALENDAR_HELP: &str = "The file of the calendar, as `roombox keep` prints it";
 
@@ -251,6 +282,12 @@ const INBOX_HELP: &str = "The folder of the messages, each written whole before 
 const READABLE_HELP: &str = "Make objects readable on their way in, as `roombox adapt` does";
 
 const ZONES_HELP: &str = "The file of VTIMEZONEs for names without one";
+
+const REPORT_HELP: &str =
+    "Say on standard error which objects came to nothing and why; at the end how many were refused, by number";
+
+const BOX_REPORT_HELP: &str =
+    "Say on standard error which objects of files that weren't answered before came to nothing, and why";
 
 const REPLY_TO_HELP: &str = "Hand on answers to the object of this file, in its words";
 
@@ -270,6 +307,7 @@ pub enum BadWord<'a> {
     Room(&'a str),
     Limit(&'a str),
     Zone(&'a str),
+    Organiser(&'a str),
     Number(&'a str),
     From(&'a str),
     Until(&'a str),
@@ -286,6 +324,9 @@ pub fn fault_of(alloc: Global, bad: BadWord<'_>) -> Result<Error, AllocError> {
         )?,
         BadWord::Zone(word) => format!(in alloc;
             "invalid value '{word}' for '--zone <WORDS>': it isn't an offset, or two offsets and when each begins, such as '-0500 -0400 11 1SU 0200 3 2SU 0200'"
+        )?,
+        BadWord::Organiser(word) => format!(in alloc;
+            "invalid value '{word}' for '<ORGANISER>': it isn't an address such as mailto:ann@example.com"
         )?,
         BadWord::Number(word) => format!(in alloc;
             "invalid value '{word}' for '[NUMBER]': it isn't the number of a refusal, such as 43"
@@ -310,6 +351,7 @@ fn program<'a>(alloc: Global) -> Result<Command<'a>, AllocError> {
     with_reading(alloc, program)?
         .subcommand(serve_command(alloc)?)?
         .subcommand(keep_command(alloc)?)?
+        .subcommand(meetings_command(alloc)?)?
         .subcommand(adapt_command(alloc)?)?
         .subcommand(agenda_command(alloc)?)?
         .subcommand(check_command(alloc)?)?
@@ -322,7 +364,7 @@ fn serve_command<'a>(alloc: Global) -> Result<Command<'a>, AllocError> {
     let report = Arg::new(alloc, "report")
         .long("report")
         .action(ArgAction::SetTrue)
-        .help("At the end, say on standard error how many objects were refused, by number");
+        .help(REPORT_HELP);
     let serve = Command::new(alloc, "serve")
         .about(SERVE)
         .after_help(SERVE_MORE)
@@ -341,6 +383,14 @@ fn keep_command<'a>(alloc: Global) -> Result<Command<'a>, AllocError> {
         .arg(certificate)?
         .arg(required(alloc, "ROOM", ROOM_HELP))?;
     with_reading(alloc, keep)
+}
+
+fn meetings_command<'a>(alloc: Global) -> Result<Command<'a>, AllocError> {
+    let meetings = Command::new(alloc, "meetings")
+        .about(MEETINGS)
+        .after_help(MEETINGS_MORE)
+        .arg(required(alloc, "ORGANISER", ORGANISER_HELP))?;
+    with_reading(alloc, meetings)
 }
 
 fn adapt_command<'a>(alloc: Global) -> Result<Command<'a>, AllocError> {
@@ -395,6 +445,17 @@ fn agenda_command<'a>(alloc: Global) -> Result<Command<'a>, AllocError> {
         .long("free")
         .action(ArgAction::SetTrue)
         .help("Print when the room is free; status 1 where it isn't all of the span");
+    let zone = Arg::new(alloc, "zone")
+        .long("zone")
+        .value_name("WORDS")
+        .help("The zone of the local times to print too");
+    let ics = Arg::new(alloc, "ics")
+        .long("ics")
+        .action(ArgAction::SetTrue)
+        .help("Print an iCalendar object for subscribing; with --from and --until")
+        .conflicts_with("free")?
+        .requires_arg("from")?
+        .requires_arg("until")?;
     Command::new(alloc, "agenda")
         .about(AGENDA)
         .after_help(AGENDA_MORE)
@@ -402,7 +463,9 @@ fn agenda_command<'a>(alloc: Global) -> Result<Command<'a>, AllocError> {
         .arg(required(alloc, "ROOM", ROOM_HELP))?
         .arg(from)?
         .arg(until)?
-        .arg(free)
+        .arg(zone)?
+        .arg(free)?
+        .arg(ics)
 }
 
 fn expand_command<'a>(alloc: Global) -> Result<Command<'a>, AllocError> {
@@ -428,9 +491,14 @@ fn explain_command<'a>(alloc: Global) -> Result<Command<'a>, AllocError> {
 }
 
 fn box_command<'a>(alloc: Global) -> Result<Command<'a>, AllocError> {
+    let report = Arg::new(alloc, "report")
+        .long("report")
+        .action(ArgAction::SetTrue)
+        .help(BOX_REPORT_HELP);
     let command = Command::new(alloc, "box")
         .about(BOX)
         .after_help(BOX_MORE)
+        .arg(report)?
         .arg(required(alloc, "CONFIG", CONFIG_HELP))?
         .arg(required(alloc, "INBOX", INBOX_HELP))?
         .arg(required(alloc, "OUTBOX", OUTBOX_HELP))?;
@@ -464,13 +532,18 @@ fn invocation_of<'a>(matches: &ArgMatches<'a>) -> Invocation<'a> {
             kept: kept_of(words),
             reading: reading_of(words),
         },
+        Some(("meetings", words)) => Invocation::Meetings {
+            organiser: words.get_str("ORGANISER").unwrap_or(""),
+            reading: reading_of(words),
+        },
         Some(("adapt", words)) => adapt_of(words),
         Some(("agenda", words)) => Invocation::Agenda(Agenda {
             calendar: words.get_str("CALENDAR").unwrap_or(""),
             room: words.get_str("ROOM").unwrap_or(""),
             from: words.get_str("from"),
             until: words.get_str("until"),
-            is_free: words.get_flag("free"),
+            zone: words.get_str("zone"),
+            form: form_of(words),
         }),
         Some(("check", words)) => Invocation::Check {
             calendar: words.get_str("CALENDAR").unwrap_or(""),
@@ -488,6 +561,7 @@ fn invocation_of<'a>(matches: &ArgMatches<'a>) -> Invocation<'a> {
             config: words.get_str("CONFIG").unwrap_or(""),
             inbox: words.get_str("INBOX").unwrap_or(""),
             outbox: words.get_str("OUTBOX").unwrap_or(""),
+            report: words.get_flag("report"),
             reading: reading_of(words),
         },
         Some(("serve", words)) => Invocation::Serve {
@@ -498,6 +572,16 @@ fn invocation_of<'a>(matches: &ArgMatches<'a>) -> Invocation<'a> {
             report: false,
             reading: reading_of(matches),
         },
+    }
+}
+
+fn form_of<'a>(words: &ArgMatches<'a>) -> Form {
+    if words.get_flag("free") {
+        Form::Free
+    } else if words.get_flag("ics") {
+        Form::Object
+    } else {
+        Form::Lines
     }
 }
 

@@ -6,6 +6,7 @@ pub mod FolderLemmas
 pub mod HostLemmas
 pub mod InputLemmas
 pub mod Lines
+pub mod MeetingLemmas
 pub mod MessageLemmas
 pub mod NameLemmas
 pub mod NameOrder
@@ -15,4 +16,5 @@ pub mod PreambleLemmas
 pub mod ScheduleLemmas
 pub mod ServingLemmas
 pub mod SettingLemmas
+pub mod ToldLemmas
 pub mod ZoneLemmas

@@ -9,6 +9,7 @@ ghost use Rattle.sched_box.specs.Objects.{kept_of};
 
 use crate::config::Config;
 use crate::fault::ServeFault;
+use crate::journal::Fate;
 use crate::objects::KEPT;
 use crate::organisers::Organisers;
 use crate::rooms::Rooms;
@@ -16,6 +17,7 @@ use ical_lines::{Fault, Refusal};
 use ical_values::{Address, Stamp};
 use itip_messages::Message;
 use itoa::Buffer;
+use organiser_books::Organiser;
 use room_books::Room;
 use std::alloc::{AllocError, Global};
 
@@ -28,13 +30,16 @@ pub(crate) struct Books {
 }
 
 impl Books {
-    ghost use Rattle.std.specs.Prelude.{◌≡◌, ◌≤◌, ◌++◌, ℕ, List, Contains, IfOk, IfErr, IfSome, IsNone, OnOk};
+    ghost use Rattle.std.specs.Prelude.{◌≡◌, ◌++◌, ℕ, List, Contains, IfOk, IfErr, IfSome, IsNone};
     ghost use Rattle.ical_lines.specs.Fault.{RefusesBy};
     ghost use Rattle.ical_values.specs.Octets.{address_octets};
     ghost use Rattle.ical_values.specs.Refused.{IfRefused};
     ghost use Rattle.profile.specs.streams.Streams.{Box, new_box};
     ghost use Rattle.sched_box.specs.Books.{AnswersKept, AreBooksOf, KeepAll, RefusesKept, TakesKept, hosted_rooms};
     ghost use Rattle.sched_box.specs.Config.{config_hosts, config_rooms};
+    ghost use Rattle.sched_box.specs.Journal.{fate_said};
+    ghost use Rattle.sched_box.specs.Organising.{organiser_addresses};
+    ghost use Rattle.organiser_books.specs.Representation.{address_of};
 
     /// Empty books for each room and each organiser, in the order of the configuration.
     pub(crate) fn new(alloc: Global, config: &Config) -> Result<Books, AllocError>
@@ -59,47 +64,55 @@ impl Books {
         self.rooms.at(address)
     }
 
-    /// Takes one object, its number in the stream from 1, and appends the answers to it; how many refusals it is: 0 or 1.
+    /// The organiser of an address, if the box hosts it.
+    pub(crate) fn organiser_at(&self, address: &Address) -> Option<&Organiser>
+        ensures found { IfSome result (λ organiser. Contains self.now.organisers.organisers.items organiser.now) }
+        ensures address { IfSome result (λ organiser. address_of organiser.now ≡ address_octets address.now) }
+        ensures none { IsNone result → Contains (organiser_addresses self.now.organisers.organisers.items) (address_octets address.now) → ⊥ }
+    {
+        self.organisers.at(address)
+    }
+
+    /// Takes one object, its number in the stream from 1, and appends the answers to it. Gives what became of it.
     pub(crate) fn take(
         &mut self,
         octets: &[u8],
         number: u64,
         now: Stamp,
         answers: &mut Vec<u8>,
-    ) -> Result<u64, ServeFault>
-        ensures answers { IfOk result (λ refused. (more : List ℕ) × (answers.new.items ≡ answers.old.items ++ more)
-            × AnswersKept now number octets.now self.old self.new more refused) }
-        ensures count { IfOk result (λ refused. refused ≤ 1) }
+    ) -> Result<Fate, ServeFault>
+        ensures answers { IfOk result (λ fate. (more : List ℕ) × (answers.new.items ≡ answers.old.items ++ more)
+            × AnswersKept now number octets.now self.old self.new more (fate_said fate)) }
         ensures addresses { IfOk result (λ _. hosted_rooms self.new ≡ hosted_rooms self.old) }
         ensures memory { IfErr result (λ fault. fault ≡ ServeFault.Memory) }
     {
         match self.answer(octets, now, answers) {
-            Ok(()) => Ok(0),
+            Ok(fate) => Ok(fate),
             Err(Fault::Refused(refusal)) => {
                 write_refusal(number, refusal, answers)?;
-                Ok(1)
+                Ok(Fate::Refused(refusal))
             }
             Err(Fault::Memory) => Err(ServeFault::Memory),
         }
     }
 
-    /// Hands one object to the rooms or to the organiser, and appends what is answered.
+    /// Hands one object to the rooms or to the organiser, and appends what is answered. Gives what became of it.
     /// Refused, and then nothing has changed: as by `read_kept` and `Organisers::take`.
-    fn answer(&mut self, octets: &[u8], now: Stamp, answers: &mut Vec<u8>) -> Result<(), Fault>
-        ensures takes { OnOk result ((more : List ℕ) × (answers.new.items ≡ answers.old.items ++ more)
-            × TakesKept now octets.now self.old self.new more) }
+    fn answer(&mut self, octets: &[u8], now: Stamp, answers: &mut Vec<u8>) -> Result<Fate, Fault>
+        ensures takes { IfOk result (λ fate. (more : List ℕ) × (answers.new.items ≡ answers.old.items ++ more)
+            × TakesKept now octets.now self.old self.new more (fate_said fate)) }
         ensures fault { IfErr result (RefusesBy (RefusesKept octets.now self.old)) }
         ensures keeps { IfErr result (IfRefused (KeepAll self.old self.new × (answers.new.items ≡ answers.old.items))) }
         ensures addresses { hosted_rooms self.new ≡ hosted_rooms self.old }
     {
         let message = read_kept(self.alloc, octets)?;
         if message.method().is_to_rooms() {
-            self.rooms.take(self.alloc, &message, now, answers)?;
-            return Ok(());
+            let effects = self.rooms.take(self.alloc, &message, now, answers)?;
+            return Ok(effects.fate());
         }
         let sent = self.organisers.take(self.alloc, &message, now)?;
         append_each(&sent, answers)?;
-        Ok(())
+        Ok(Fate::Taken)
     }
 }
 

@@ -11,4 +11,6 @@ pub mod Printing
 pub mod RefusedLemmas
 pub mod RunningLemmas
 pub mod Saying
+pub mod Showing
+pub mod ShownLemmas
 pub mod Taken

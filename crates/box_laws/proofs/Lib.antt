@@ -1,0 +1,2 @@
+pub mod law_lemmas
+pub mod examples

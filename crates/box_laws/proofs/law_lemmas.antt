@@ -1,0 +1,10 @@
+pub mod Lists
+pub mod RoomSteps
+pub mod Organisers
+pub mod OrganiserSteps
+pub mod OneStep
+pub mod Runs
+pub mod NewBoxes
+pub mod OneByOne
+pub mod FileByFile
+pub mod Inboxes
