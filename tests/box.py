@@ -37,11 +37,6 @@ MANY, KILLS = 10_000, 100
 MEMORY = Path("/dev/shm")
 
 
-def first_line(said):
-    """What is said first: reasons come behind it."""
-    return "".join(said.splitlines(keepends=True)[:1])
-
-
 # ---- messages, answers and folders
 
 
@@ -98,9 +93,9 @@ class Boxes:
         return [self.program, "box", str(self.config), str(self.inbox), str(self.outbox)]
 
     def run(self, **how):
-        """The status, the standard output and the first line on standard error of a run; tests/reports.py looks at the reasons behind it."""
+        """The status, the standard output and the standard error of a run."""
         ended = subprocess.run(self.words(), stdin=subprocess.DEVNULL, capture_output=True, timeout=300, **how)
-        return ended.returncode, ended.stdout.decode(), first_line(ended.stderr.decode())
+        return ended.returncode, ended.stdout.decode(), ended.stderr.decode()
 
     def begun(self):
         return subprocess.Popen(self.words(), stdin=subprocess.DEVNULL, stdout=subprocess.DEVNULL, stderr=subprocess.PIPE)
@@ -505,7 +500,7 @@ def vanished(cases, parent):
     while not (boxes.outbox / named(1, end="out")).exists() and run.poll() is None:
         time.sleep(0.0005)
     (boxes.inbox / named(MANY)).unlink()
-    said = first_line(run.stderr.read().decode())
+    said = run.stderr.read().decode()
     cases.holds("a file that vanishes", (run.wait(), said), (4, "roombox: device\n"))
     cases.holds("the answers to the others are there", boxes.names(), [named(number, end="out") for number in range(1, MANY)])
     run.stderr.close()

@@ -26,7 +26,6 @@ STREAM = (
     ("request-b-busy-sequence-1", "accepted-b-1"),
 )
 DEVICE = (4, b"roombox: device\n")
-READING, WRITING = (DEVICE[1] + b"roombox: standard %s: it can't be used\n" % name for name in (b"input", b"output"))
 
 SHIM = r"""
 #define _GNU_SOURCE
@@ -95,9 +94,9 @@ def served(cases, devices):
         octets = call - 1
         sent = b"".join([answer for end, answer in ends if end <= octets][-1:])
         # the end of the input is read twice: the last object is answered between
-        cases.holds(f"read {call}", devices.run(["serve"], given, FAILING_READ=call), (DEVICE[0], sent, READING))
+        cases.holds(f"read {call}", devices.run(["serve"], given, FAILING_READ=call), (DEVICE[0], sent, DEVICE[1]))
     for call in range(1, len(answers) + 1):
-        cases.holds(f"write {call}", devices.run(["serve"], given, FAILING_WRITE=call), (DEVICE[0], answers[: call - 1], WRITING))
+        cases.holds(f"write {call}", devices.run(["serve"], given, FAILING_WRITE=call), (DEVICE[0], answers[: call - 1], DEVICE[1]))
 
 
 def others(cases, devices):
@@ -110,9 +109,9 @@ def others(cases, devices):
         status, out, said = devices.run(words, given)
         cases.holds(f"{what}, no call fails", (status, said), (0, b""))
         for call in range(1, len(given) + 2):
-            cases.holds(f"{what}, read {call}", devices.run(words, given, FAILING_READ=call), (DEVICE[0], b"", READING))
+            cases.holds(f"{what}, read {call}", devices.run(words, given, FAILING_READ=call), (DEVICE[0], b"", DEVICE[1]))
         for call in range(1, len(out) + 1):
-            cases.holds(f"{what}, write {call}", devices.run(words, given, FAILING_WRITE=call), (DEVICE[0], out[: call - 1], WRITING))
+            cases.holds(f"{what}, write {call}", devices.run(words, given, FAILING_WRITE=call), (DEVICE[0], out[: call - 1], DEVICE[1]))
 
 
 def main():

@@ -521,8 +521,8 @@ def listed_statuses():
 
 def said_as_listed(ended, case):
     """Whether standard error has what the guide says of the status."""
-    forms = {2: rb"error: .*", 3: rb"(roombox: object \d+: [ -~]*\n)*roombox: (refused \d+|too long|differs [\x21-\x7e]+)\n(roombox: [ -~]+\n)?", 4: rb"(roombox: object \d+: [ -~]*\n)*roombox: device\n(roombox: [ -~]+\n)*", 5: rb"roombox: memory\n"}
-    report = rb"(roombox: object \d+: [^\n]*\n)*" if case.words[:1] == ["adapt"] else rb"(roombox: object \d+: [ -~]*\n)*roombox: \d+ objects?, [^\n]*\n"
+    forms = {2: rb"error: .*", 3: rb"roombox: (refused \d+|too long|differs [\x21-\x7e]+)\n", 4: rb"roombox: device\n", 5: rb"roombox: memory\n"}
+    report = rb"(roombox: object \d+: [^\n]*\n)*" if case.words[:1] == ["adapt"] else rb"roombox: \d+ objects?, .*\n"
     form = report if ended.status == 0 and "--report" in case.words else rb""
     return re.fullmatch(forms.get(ended.status, form), ended.said, re.DOTALL)
 

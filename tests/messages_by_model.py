@@ -607,8 +607,7 @@ def played(program, case, met):
         ran = run(program, words, case.text.encode())
         outputs[name] = ran.stdout.decode()
         wanted = (3, b"roombox: refused 90\n") if case.refused else (0, b"")
-        first = b"".join(ran.stderr.splitlines(keepends=True)[:1])
-        if (ran.returncode, first) != wanted:
+        if (ran.returncode, ran.stderr) != wanted:
             yield name, ran.returncode, ran.stderr.decode()
 
     def checked(calendar, certificate, room):

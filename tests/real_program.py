@@ -32,9 +32,9 @@ def expect(name, found, wanted):
 
 
 def ended(program, words, stdin, stdout=subprocess.PIPE):
-    """The status and the first line on standard error of a run; tests/reports.py looks at the reasons behind it."""
+    """The status and the standard error of a run."""
     run = subprocess.run([program, *words], input=stdin.encode(), stdout=stdout, stderr=subprocess.PIPE, check=False)
-    return run.returncode, "".join(run.stderr.decode().splitlines(keepends=True)[:1])
+    return run.returncode, run.stderr.decode()
 
 
 def full_disk(program, calendar, certificate):

@@ -16,5 +16,4 @@ pub mod PreambleLemmas
 pub mod ScheduleLemmas
 pub mod ServingLemmas
 pub mod SettingLemmas
-pub mod ToldLemmas
 pub mod ZoneLemmas

@@ -9,7 +9,6 @@ ghost use Rattle.sched_box.specs.Objects.{kept_of};
 
 use crate::config::Config;
 use crate::fault::ServeFault;
-use crate::journal::Fate;
 use crate::objects::KEPT;
 use crate::organisers::Organisers;
 use crate::rooms::Rooms;
@@ -30,14 +29,13 @@ pub(crate) struct Books {
 }
 
 impl Books {
-    ghost use Rattle.std.specs.Prelude.{◌≡◌, ◌++◌, ℕ, List, Contains, IfOk, IfErr, IfSome, IsNone};
+    ghost use Rattle.std.specs.Prelude.{◌≡◌, ◌≤◌, ◌++◌, ℕ, List, Contains, IfOk, IfErr, IfSome, IsNone, OnOk};
     ghost use Rattle.ical_lines.specs.Fault.{RefusesBy};
     ghost use Rattle.ical_values.specs.Octets.{address_octets};
     ghost use Rattle.ical_values.specs.Refused.{IfRefused};
     ghost use Rattle.profile.specs.streams.Streams.{Box, new_box};
     ghost use Rattle.sched_box.specs.Books.{AnswersKept, AreBooksOf, KeepAll, RefusesKept, TakesKept, hosted_rooms};
     ghost use Rattle.sched_box.specs.Config.{config_hosts, config_rooms};
-    ghost use Rattle.sched_box.specs.Journal.{fate_said};
     ghost use Rattle.sched_box.specs.Organising.{organiser_addresses};
     ghost use Rattle.organiser_books.specs.Representation.{address_of};
 
@@ -73,46 +71,47 @@ impl Books {
         self.organisers.at(address)
     }
 
-    /// Takes one object, its number in the stream from 1, and appends the answers to it. Gives what became of it.
+    /// Takes one object, its number in the stream from 1, and appends the answers to it; how many refusals it is: 0 or 1.
     pub(crate) fn take(
         &mut self,
         octets: &[u8],
         number: u64,
         now: Stamp,
         answers: &mut Vec<u8>,
-    ) -> Result<Fate, ServeFault>
-        ensures answers { IfOk result (λ fate. (more : List ℕ) × (answers.new.items ≡ answers.old.items ++ more)
-            × AnswersKept now number octets.now self.old self.new more (fate_said fate)) }
+    ) -> Result<u64, ServeFault>
+        ensures answers { IfOk result (λ refused. (more : List ℕ) × (answers.new.items ≡ answers.old.items ++ more)
+            × AnswersKept now number octets.now self.old self.new more refused) }
+        ensures count { IfOk result (λ refused. refused ≤ 1) }
         ensures addresses { IfOk result (λ _. hosted_rooms self.new ≡ hosted_rooms self.old) }
         ensures memory { IfErr result (λ fault. fault ≡ ServeFault.Memory) }
     {
         match self.answer(octets, now, answers) {
-            Ok(fate) => Ok(fate),
+            Ok(()) => Ok(0),
             Err(Fault::Refused(refusal)) => {
                 write_refusal(number, refusal, answers)?;
-                Ok(Fate::Refused(refusal))
+                Ok(1)
             }
             Err(Fault::Memory) => Err(ServeFault::Memory),
         }
     }
 
-    /// Hands one object to the rooms or to the organiser, and appends what is answered. Gives what became of it.
+    /// Hands one object to the rooms or to the organiser, and appends what is answered.
     /// Refused, and then nothing has changed: as by `read_kept` and `Organisers::take`.
-    fn answer(&mut self, octets: &[u8], now: Stamp, answers: &mut Vec<u8>) -> Result<Fate, Fault>
-        ensures takes { IfOk result (λ fate. (more : List ℕ) × (answers.new.items ≡ answers.old.items ++ more)
-            × TakesKept now octets.now self.old self.new more (fate_said fate)) }
+    fn answer(&mut self, octets: &[u8], now: Stamp, answers: &mut Vec<u8>) -> Result<(), Fault>
+        ensures takes { OnOk result ((more : List ℕ) × (answers.new.items ≡ answers.old.items ++ more)
+            × TakesKept now octets.now self.old self.new more) }
         ensures fault { IfErr result (RefusesBy (RefusesKept octets.now self.old)) }
         ensures keeps { IfErr result (IfRefused (KeepAll self.old self.new × (answers.new.items ≡ answers.old.items))) }
         ensures addresses { hosted_rooms self.new ≡ hosted_rooms self.old }
     {
         let message = read_kept(self.alloc, octets)?;
         if message.method().is_to_rooms() {
-            let effects = self.rooms.take(self.alloc, &message, now, answers)?;
-            return Ok(effects.fate());
+            self.rooms.take(self.alloc, &message, now, answers)?;
+            return Ok(());
         }
         let sent = self.organisers.take(self.alloc, &message, now)?;
         append_each(&sent, answers)?;
-        Ok(Fate::Taken)
+        Ok(())
     }
 }
 

@@ -7,21 +7,18 @@ ghost use Rattle.std.specs.Str.{bytes_eq};
 ghost use Rattle.ical_values.specs.Octets.{address_octets};
 ghost use Rattle.cal_events.specs.Component.{method_said};
 ghost use Rattle.profile.specs.events.Messages.{is_to_rooms};
-ghost use Rattle.profile.specs.rooms.Rooms.{Kind as SaidKind};
 ghost use Rattle.profile.specs.streams.Streams.{ZonedRoom as SaidRoom, new_room};
 ghost use Rattle.profile.specs.streams.Worlds.{rooms_once};
-ghost use Rattle.room_books.specs.Taking.{kind_view, octets_in};
+ghost use Rattle.room_books.specs.Taking.{octets_in};
 ghost use Rattle.sched_box.specs.Answering.{AreHosted, IsHosted, IsMade, RoomTakes, RoomsSend, RoomsTake, octets_each, room_addresses, sent_by, sent_octets};
 ghost use Rattle.sched_box.specs.Asked.{LeavesOut, asks, directory_addresses};
-ghost use Rattle.sched_box.specs.Journal.{AreEffects};
 ghost use Rattle.sched_box.specs.Settings.{zoned_room};
 
 use crate::directory::Directory;
-use crate::journal::Effects;
 use crate::settings::ZonedRoom;
 use ical_values::{Address, Stamp};
 use itip_messages::Message;
-use room_books::{Answer, Kind, Room};
+use room_books::{Answer, Room};
 use std::alloc::{AllocError, Global};
 
 /// The rooms that a box hosts, each with all that it took.
@@ -55,16 +52,16 @@ impl Rooms {
         Some(&self.rooms[place])
     }
 
-    /// Hands a message to each room that it may be for, in turn, and appends what they answer. Gives what became of it.
+    /// Hands a message to each room that it may be for, in turn, and appends what they answer.
     pub(crate) fn take(
         &mut self,
         alloc: Global,
         message: &Message,
         now: Stamp,
         answers: &mut Vec<u8>,
-    ) -> Result<Effects, AllocError>
-        ensures takes { IfOk result (λ effects. (more : List ℕ) × (kinds : List SaidKind) × (answers.new.items ≡ answers.old.items ++ more)
-            × RoomsTake now message.now self.old.rooms.items self.new.rooms.items more kinds × AreEffects kinds effects) }
+    ) -> Result<(), AllocError>
+        ensures takes { OnOk result ((more : List ℕ) × (answers.new.items ≡ answers.old.items ++ more)
+            × RoomsTake now message.now self.old.rooms.items self.new.rooms.items more) }
         ensures addresses { room_addresses self.new.rooms.items ≡ room_addresses self.old.rooms.items }
     {
         let asked = self.directory.asked_by(alloc, message)?;
@@ -118,50 +115,43 @@ fn room_of(alloc: Global, host: &ZonedRoom) -> Result<Room, AllocError>
     Ok(Room::new(alloc, host.address.clone()?, host.zone))
 }
 
-/// Hands a message to each room that it may be for, in turn, and appends what it answers. Gives what became of it.
+/// Hands a message to each room that it may be for, in turn, and appends what it answers.
 fn take_all(
     rooms: &mut Vec<Room>,
     asked: &[bool],
     message: &Message,
     now: Stamp,
     answers: &mut Vec<u8>,
-) -> Result<Effects, AllocError>
+) -> Result<(), AllocError>
     requires long { length asked.now ≡ length rooms.old.items }
     requires out { LeavesOut (asks message.now) (room_addresses rooms.old.items) asked.now }
     ensures addresses { room_addresses rooms.new.items ≡ room_addresses rooms.old.items }
-    ensures takes { IfOk result (λ effects. (more : List ℕ) × (kinds : List SaidKind) × (answers.new.items ≡ answers.old.items ++ more)
-        × RoomsTake now message.now rooms.old.items rooms.new.items more kinds × AreEffects kinds effects) }
+    ensures takes { OnOk result ((more : List ℕ) × (answers.new.items ≡ answers.old.items ++ more)
+        × RoomsTake now message.now rooms.old.items rooms.new.items more) }
 {
-    let mut effects = Effects::none();
     for (place, room) in rooms.iter_mut().enumerate() {
         if asked[place] {
-            let kind = take_one(room, message, now, answers)?;
-            effects = effects.with(&kind);
+            take_one(room, message, now, answers)?;
         }
     }
-    Ok(effects)
+    Ok(())
 }
 
-/// Hands a message to a room, and appends its reply and then its refresh. Gives what became of it.
+/// Hands a message to a room, and appends its reply and then its refresh.
 fn take_one(
     room: &mut Room,
     message: &Message,
     now: Stamp,
     answers: &mut Vec<u8>,
-) -> Result<Kind, AllocError>
+) -> Result<(), AllocError>
     ensures address { room.new.address ≡ room.old.address }
     ensures zone { room.new.zone ≡ room.old.zone }
-    ensures takes { IfOk result (λ kind. (more : List ℕ) × (answers.new.items ≡ answers.old.items ++ more)
-        × RoomTakes now message.now room.old room.new more (kind_view kind)) }
+    ensures takes { OnOk result ((more : List ℕ) × (answers.new.items ≡ answers.old.items ++ more)
+        × RoomTakes now message.now room.old room.new more) }
 {
-    let Answer {
-        kind,
-        reply,
-        refresh,
-    } = room.take(message, now)?;
-    append(&reply, answers)?;
-    append(&refresh, answers)?;
-    Ok(kind)
+    let answer = room.take(message, now)?;
+    append(&answer.reply, answers)?;
+    append(&answer.refresh, answers)
 }
 
 /// Appends an object, if there is one.
