@@ -1,4 +1,3 @@
 pub mod Gaps
 pub mod InSpan
 pub mod Printing
-pub mod Published

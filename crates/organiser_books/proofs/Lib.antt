@@ -11,4 +11,3 @@ pub mod Books
 pub mod Taking
 pub mod Replying
 pub mod Storing
-pub mod Showing

@@ -6,7 +6,6 @@ pub mod FolderLemmas
 pub mod HostLemmas
 pub mod InputLemmas
 pub mod Lines
-pub mod MeetingLemmas
 pub mod MessageLemmas
 pub mod NameLemmas
 pub mod NameOrder

@@ -7,7 +7,6 @@ mod directory;
 mod fault;
 pub mod file_names;
 pub mod folders;
-pub mod meetings;
 pub mod objects;
 mod organisers;
 pub mod preamble;
@@ -20,7 +19,6 @@ pub use config::Config;
 pub use fault::{ServeFault, StreamFault};
 pub use file_names::MessageName;
 pub use folders::{BoxFault, BoxReport, run_box};
-pub use meetings::shown_meetings;
 pub use preamble::read_preamble;
 pub use sched_devices::{
     DeviceReader, DeviceWriter, DiskFolder, Folder, FolderFault, Input, Output, WriteFault,
