@@ -8,7 +8,7 @@ What a crate uses is of crates.txt, without what the others that it uses bring a
 
 import sys
 
-from repository import ROOT, crates_below
+from repository import ROOT, crates_below, put_between
 
 PAGE = ROOT / "docs" / "ARCHITECTURE.md"
 BEGIN, END = "<!-- table: bench/crates_table.py -->\n", "<!-- end of table -->\n"
@@ -48,15 +48,10 @@ def table():
 def main():
     if sys.argv[1:] not in ([], ["--check"]):
         sys.exit(__doc__)
-    text = PAGE.read_text(encoding="utf-8")
-    head, begin, rest = text.partition(BEGIN)
-    old, end, tail = rest.partition(END)
-    if not (begin and end):
-        sys.exit(f"{PAGE}: the two marker comments aren't there")
+    is_same = put_between(PAGE, BEGIN, END, table(), bool(sys.argv[1:]))
     if sys.argv[1:]:
-        print(f"{PAGE.relative_to(ROOT)}: the table is {'that of the crates' if old == table() else 'stale: run bench/crates_table.py'}")
-        return int(old != table())
-    PAGE.write_text(head + begin + table() + end + tail, encoding="utf-8")
+        print(f"{PAGE.relative_to(ROOT)}: the table is {'that of the crates' if is_same else 'stale: run bench/crates_table.py'}")
+        return int(not is_same)
     return 0
 
 

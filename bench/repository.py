@@ -33,3 +33,14 @@ def copied(crate, below, room, kept="out"):
             elif (source / part).is_file():
                 shutil.copy(source / part, target / part)
     return Path(room) / "crates" / crate
+
+
+def put_between(page, begin, end, made, only_compares):
+    """Puts a generated table between its two marker comments, or only compares it; whether the page had that very table."""
+    head, first, rest = page.read_text(encoding="utf-8").partition(begin)
+    old, last, tail = rest.partition(end)
+    if not (first and last):
+        raise SystemExit(f"{page}: the two marker comments aren't there")
+    if not only_compares:
+        page.write_text(head + begin + made + end + tail, encoding="utf-8")
+    return old == made

@@ -12,7 +12,7 @@ that profile hasn't.
 import re
 import sys
 
-from repository import ROOT, crates_below
+from repository import ROOT, crates_below, put_between
 
 CRATES = ROOT / "crates"
 PAGE, DATA = ROOT / "docs" / "DEFINITIONS.md", ROOT / "bench" / "vocabulary.tsv"
@@ -90,15 +90,10 @@ def main():
     if sys.argv[1:] not in ([], ["--check"]):
         sys.exit(__doc__)
     wrong = faults()
-    text = PAGE.read_text(encoding="utf-8")
-    head, begin, rest = text.partition(BEGIN)
-    old, end, tail = rest.partition(END)
-    if not (begin and end):
-        sys.exit(f"{PAGE}: the two marker comments aren't there")
+    is_same = put_between(PAGE, BEGIN, END, table(), bool(sys.argv[1:]))
     if sys.argv[1:]:
-        print(f"{PAGE.relative_to(ROOT)}: the table is {'that of the types' if old == table() else 'stale: run bench/vocabulary.py'}")
-        return int(old != table() or wrong)
-    PAGE.write_text(head + begin + table() + end + tail, encoding="utf-8")
+        print(f"{PAGE.relative_to(ROOT)}: the table is {'that of the types' if is_same else 'stale: run bench/vocabulary.py'}")
+        return int(not is_same or wrong)
     return int(wrong)
 
 
