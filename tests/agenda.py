@@ -1,13 +1,19 @@
 """Compares `roombox agenda` with instances that Python computes of random calendars (tests/certificate_by_dateutil.py), and tries its words.
 
     python3 tests/agenda.py bin/roombox [CALENDARS] [SEED]
+
+Local times are compared with those of zoneinfo. What `--ics` prints is read here, line by line: its VEVENTs have to have the hours of those instances, and
+UIDs of their own. Clients read it in tests/subscribers.py.
 """
 
 import random
+import re
 import subprocess
 import sys
 import tempfile
+from datetime import datetime, timedelta, timezone
 from pathlib import Path
+from zoneinfo import ZoneInfo
 
 from certificate_by_dateutil import DAY, NOW, ROOM, Calendar, calendar_text, kept, moment, stamp
 
@@ -21,8 +27,8 @@ def run(program, text, *words):
     with tempfile.TemporaryDirectory() as folder:
         path = Path(folder, "kept.ics")
         path.write_text(text, newline="")
-        ended = subprocess.run([program, "agenda", path, *words], capture_output=True, timeout=300, text=True)
-    return ended.returncode, ended.stdout, ended.stderr
+        ended = subprocess.run([program, "agenda", path, *words], capture_output=True, timeout=300)
+    return ended.returncode, ended.stdout.decode(), ended.stderr.decode()
 
 
 def instances(calendar, start, end):
@@ -40,6 +46,58 @@ def free(found, start, end):
             spans.append((start, a))
         start = max(start, b)
     return spans + ([(start, end)] if start < end else [])
+
+
+# The words of zones, with the name by which zoneinfo knows them: each has the same rules in all years that are asked for here.
+ZONES = [
+    ("-0500 -0400 11 1SU 0200 3 2SU 0200", "America/New_York"),
+    ("+0100 +0200 10 -1SU 0300 3 -1SU 0200", "Europe/Berlin"),
+    ("+1030 +1100 4 1SU 0200 10 1SU 0200", "Australia/Lord_Howe"),
+    ("+0530", "Asia/Kolkata"),
+    ("+0000", "UTC"),
+]
+
+
+def local(instant, name):
+    """The local time of an instant, in the form of RFC 5545 3.3.5."""
+    at = datetime(1970, 1, 1, tzinfo=timezone.utc) + timedelta(seconds=instant)
+    return at.astimezone(ZoneInfo(name)).strftime("%Y%m%dT%H%M%S").zfill(15)
+
+
+def with_local(lines, name):
+    """These lines as they have to be with local times: behind the first two words those of the zone."""
+    shown = []
+    for line in lines.splitlines():
+        start, end, *rest = line.split(" ", 2)
+        shown.append(" ".join([start, end, local(moment(start), name), local(moment(end), name), *rest]))
+    return "".join(line + "\n" for line in shown)
+
+
+def faults_of_object(text, wanted, start):
+    """What is wrong with an object that is published of instances, each a start and an end; nothing where it is as it has to be."""
+    octets = text.encode()
+    found = []
+    if not octets.endswith(b"\r\n") or any(it.endswith(b"\r") for it in octets.split(b"\r\n")) or octets.count(b"\n") != octets.count(b"\r\n"):
+        found.append("line breaks")
+    if any(len(it) > 75 for it in octets.split(b"\r\n")):
+        found.append("a line of more than 75 octets")
+    lines = [it for it in re.sub(r"\r\n[ \t]", "", text).split("\r\n") if it]
+    head = ["BEGIN:VCALENDAR", "VERSION:2.0", "PRODID:-//iTIP room box//EN", "NAME:r1@example.com", "X-WR-CALNAME:r1@example.com"]
+    if lines[:5] != head or lines[-1] != "END:VCALENDAR":
+        found.append(f"not around it: {lines[:5]}, {lines[-1]}")
+    events, uids = [], set()
+    body = lines[5:-1]
+    for at in range(0, len(body), 8):
+        begin, uid, made, first, last, who, transparent, end = body[at:at + 8]
+        if begin != "BEGIN:VEVENT" or end != "END:VEVENT" or made != f"DTSTAMP:{stamp(start)}" or transparent != "TRANSP:OPAQUE" or not who.startswith("SUMMARY:"):
+            found.append(f"VEVENT {body[at:at + 8]}")
+        uids.add(uid)
+        events.append((moment(first.removeprefix("DTSTART:")), moment(last.removeprefix("DTEND:"))))
+    if len(uids) != len(events):
+        found.append("a UID twice")
+    if sorted(events) != wanted or [it[0] for it in events] != [it[0] for it in wanted]:
+        found.append(f"instances {events}")
+    return found
 
 
 def spans_of(lines):
@@ -60,16 +118,37 @@ def random_cases(program, count, seed):
             if status or sorted(spans_of(lines)) != wanted or [it[0] for it in spans_of(lines)] != [it[0] for it in wanted]:
                 faults += 1
                 print(f"agenda {words}: {status}, {lines!r}, wanted {wanted}\n{text}")
+            zone, name = chance.choice(ZONES)
+            status, shown, _ = run(program, text, *words, f"--zone={zone}")
+            if status or shown != with_local(lines, name):
+                faults += 1
+                print(f"agenda {words} --zone={zone}: {status}, {shown!r}, wanted {with_local(lines, name)!r}\n{text}")
+            status, published, _ = run(program, text, *words, "--ics")
+            if status or faults_of_object(published, wanted, start):
+                faults += 1
+                print(f"agenda {words} --ics: {status}, {faults_of_object(published, wanted, start)}, {published!r}\n{text}")
             wanted = free(wanted, start, end)
             status, lines, _ = run(program, text, *words, "--free")
             if spans_of(lines) != wanted or status != (0 if wanted == [(start, end)] else 1):
                 faults += 1
                 print(f"free {words}: {status}, {lines!r}, wanted {wanted}\n{text}")
-    return 8 * count, faults
+            status, shown, _ = run(program, text, *words, "--free", f"--zone={zone}")
+            if shown != with_local(lines, name) or status != (0 if wanted == [(start, end)] else 1):
+                faults += 1
+                print(f"free {words} --zone={zone}: {status}, {shown!r}, wanted {with_local(lines, name)!r}\n{text}")
+    return 20 * count, faults
 
 
 def cases():
     """What is asked of one meeting from 07:00 to 08:00, and of an empty room, with status and standard output by hand."""
+    berlin = "--zone=+0100 +0200 10 -1SU 0300 3 -1SU 0200"
+    published = (
+        "BEGIN:VCALENDAR\r\nVERSION:2.0\r\nPRODID:-//iTIP room box//EN\r\nNAME:r1@example.com\r\nX-WR-CALNAME:r1@example.com\r\nBEGIN:VEVENT\r\n"
+        "UID:20250415T070000Z mailto:ann@example.com a\\,b\r\nDTSTAMP:20250415T000000Z\r\nDTSTART:20250415T070000Z\r\nDTEND:20250415T080000Z\r\n"
+        "SUMMARY:ann@example.com\r\nTRANSP:OPAQUE\r\nEND:VEVENT\r\nEND:VCALENDAR\r\n"
+    )
+    none = published[:published.index("BEGIN:VEVENT")] + "END:VCALENDAR\r\n"
+    late = ONE.replace("DTSTART:20250415T070000Z", "DTSTART:99991231T230000Z").replace("DTEND:20250415T080000Z", "DURATION:PT2H")
     line = "20250415T070000Z 20250415T080000Z a\\,b mailto:ann@example.com\n"
     day = ["--from", "20250415T000000Z", "--until", "20250416T000000Z"]
     return [
@@ -85,6 +164,23 @@ def cases():
         ("free without an end is no question", ONE, [ROOM, "--from", "20250415T070000Z", "--free"], 0, "20250415T080000Z -\n"),
         ("an empty room", EMPTY, [ROOM, *day], 0, ""),
         ("an empty room is free", EMPTY, [ROOM, *day, "--free"], 0, "20250415T000000Z 20250416T000000Z\n"),
+        ("local times in summer", ONE, [ROOM, *day, berlin], 0, "20250415T070000Z 20250415T080000Z 20250415T090000 20250415T100000 a\\,b mailto:ann@example.com\n"),
+        ("local times of what is free", ONE, [ROOM, "--from", "20250415T080000Z", "--until", "20250415T230000Z", "--free", berlin], 0,
+         "20250415T080000Z 20250415T230000Z 20250415T100000 20250416T010000\n"),
+        ("UTC as a zone", ONE, [ROOM, *day, "--zone=+0000"], 0, "20250415T070000Z 20250415T080000Z 20250415T070000 20250415T080000 a\\,b mailto:ann@example.com\n"),
+        ("an end in year 10000 has a local time west of Greenwich", late, [ROOM, "--from", "99991231T000000Z", "--zone=-0500"], 0,
+         "99991231T230000Z - 99991231T180000 99991231T200000 a\\,b mailto:ann@example.com\n"),
+        ("and none east of it", late, [ROOM, "--from", "99991231T000000Z", "--zone=+0100"], 0, "99991231T230000Z - - - a\\,b mailto:ann@example.com\n"),
+        ("before year 1 no clock shows a time", ONE, [ROOM, "--until", "00010101T010000Z", "--free", "--zone=-0100"], 0, "00010101T000000Z 00010101T010000Z - 00010101T000000\n"),
+        ("no zone", ONE, [ROOM, *day, "--zone=Europe/Berlin"], 2, ""),
+        ("an object for subscribing", ONE, [ROOM, *day, "--ics"], 0, published),
+        ("an object of an empty room", EMPTY, [ROOM, *day, "--ics"], 0, none),
+        ("an object's end in year 10000 is the last second before it", late, [ROOM, "--from", "99991231T000000Z", "--until", "99991231T235959Z", "--ics"], 0,
+         published.replace("20250415T070000Z", "99991231T230000Z").replace("20250415T080000Z", "99991231T235959Z").replace("20250415T000000Z", "99991231T000000Z")),
+        ("an object without an end", ONE, [ROOM, "--from", "20250415T080000Z", "--ics"], 2, ""),
+        ("an object without a beginning", ONE, [ROOM, "--until", "20250415T080000Z", "--ics"], 2, ""),
+        ("an object of what is free", ONE, [ROOM, *day, "--ics", "--free"], 2, ""),
+        ("an object is in UTC, whatever zone is shown", ONE, [ROOM, *day, "--ics", berlin], 0, published),
         ("no stamp", ONE, [ROOM, "--from", "2025-04-15"], 2, ""),
         ("a local time", ONE, [ROOM, "--until", "20250415T080000"], 2, ""),
         ("an end before its start", ONE, [ROOM, "--from", "20250415T080000Z", "--until", "20250415T080000Z"], 2, ""),
@@ -104,7 +200,10 @@ def by_hand(program):
     if run(program, text, ROOM)[:2] != (0, ""):
         faults += 1
         print("what keep prints of an empty room")
-    return len(cases()) + 1, faults
+    if run(program, text, ROOM, "--from", "20250415T140000Z", "--until", "20250415T150000Z", "--free")[0] != 0:
+        faults += 1
+        print("an empty room, as keep prints it, is free")
+    return len(cases()) + 2, faults
 
 
 def main():

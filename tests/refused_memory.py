@@ -60,6 +60,18 @@ void *aligned_alloc(size_t align, size_t size) {
 
 
 NEW_YORK = "-0500 -0400 11 1SU 0200 3 2SU 0200"
+
+def lines(*texts):
+    return b"".join(text + b"\r\n" for text in texts)
+
+
+# What is published of the meeting of calendar-a, and what an organiser shows of the meeting that it stores in organiser-conversation.
+PUBLISHED = lines(b"BEGIN:VCALENDAR", b"VERSION:2.0", b"PRODID:-//iTIP room box//EN", b"NAME:r1@example.com", b"X-WR-CALNAME:r1@example.com", b"BEGIN:VEVENT",
+                  b"UID:20250310T090000Z mailto:ann@example.com a", b"DTSTAMP:20250310T000000Z", b"DTSTART:20250310T090000Z", b"DTEND:20250310T100000Z", b"SUMMARY:ann@example.com",
+                  b"TRANSP:OPAQUE", b"END:VEVENT", b"END:VCALENDAR")
+SHOWN = lines(b"BEGIN:VCALENDAR", b"VERSION:2.0", b"PRODID:-//iTIP room box//EN", b"BEGIN:VEVENT", b"UID:s", b"SEQUENCE:1", b"DTSTAMP:20250102T000000Z", b"DTSTART:20250402T090000Z",
+              b"DURATION:PT3600S", b"SUMMARY:Plan", b"ORGANIZER:mailto:ann@example.com", b"ATTENDEE;PARTSTAT=NEEDS-ACTION;SCHEDULE-STATUS=1.1:mailto:r1@example.com", b"END:VEVENT",
+              b"END:VCALENDAR")
 # An object whose METHOD isn't read, and that has no VEVENT.
 REFUSED = b"BEGIN:VCALENDAR\r\nVERSION:2.0\r\nMETHOD:PUBLISH\r\nEND:VCALENDAR\r\n"
 
@@ -202,12 +214,17 @@ def main():
         readable = ample([program, "adapt"], history)
         answer = ample([program, "serve", "--adapt"], b"now 20250102T000000Z\nroom mailto:room1@example.com\nroom mailto:room1@rooms.example.net\n\n" + moved)
         back = [program, "adapt", "--reply-to", original, "--single"]
+        conversation = open(os.path.join(os.path.dirname(__file__), "..", "examples", "organiser-conversation.ics-stream"), "rb").read()
         rows = [
             ("an object with history at the door", [program, "adapt"], history, [b"", readable]),
             ("an answer on its way back", back, answer, [b"", ample(back, answer)]),
             ("an agenda", [program, "agenda", kept, room], b"", [b"", b"20250310T090000Z 20250310T100000Z a mailto:ann@example.com\n"]),
             ("when a room is free", [program, "agenda", kept, room, "--free", "--from", "20250310T000000Z", "--until", "20250311T000000Z"], b"",
              [b"", b"20250310T000000Z 20250310T090000Z\n20250310T100000Z 20250311T000000Z\n"], 1),
+            ("an agenda with local times", [program, "agenda", kept, room, "--zone=+0100 +0200 10 -1SU 0300 3 -1SU 0200"], b"",
+             [b"", b"20250310T090000Z 20250310T100000Z 20250310T100000 20250310T110000 a mailto:ann@example.com\n"]),
+            ("an agenda that is published", [program, "agenda", kept, room, "--ics", "--from", "20250310T000000Z", "--until", "20250311T000000Z"], b"", [b"", PUBLISHED]),
+            ("the meetings of an organiser", [program, "meetings", "mailto:ann@example.com"], conversation, [b"", SHOWN]),
             ("what of a zone is in the way", [program, "explain"], read("explain-head", "zone-with-until", "explain-event"), [b"", read("explained-with-until")], 1),
             ("an accepted request", [program, "serve"], read("preamble", "request-a"), [b"", accepted]),
             ("a declined request", [program, "serve"], decline, [b"", accepted, accepted + declined]),

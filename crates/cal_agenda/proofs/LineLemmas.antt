@@ -1,7 +1,7 @@
 -- Lines one after another.
-use Rattle.std.proofs.Common.{◌≡◌, ◌∙◌, ℕ, ◌+◌, ◌<◌, List, [], ◌∷◌, ◌++◌, map, take, get_or, refl, sym, ap, subst, length, ℤ, append_assoc, append-nil}
-use Rattle.std.proofs.lemmas.List.{take_more, map-append}
-use Rattle.cal_agenda.specs.Printing.{LinesOf, IsTimesText, IsInstantText}
+use Rattle.std.proofs.Common.{◌≡◌, ◌∙◌, ℕ, ◌+◌, ◌<◌, ◌≤◌, List, [], ◌∷◌, ◌++◌, map, take, get_or, refl, sym, ap, subst, length, append_assoc, append-nil}
+use Rattle.std.proofs.lemmas.List.{take_more, take_all, map-append}
+use Rattle.cal_agenda.specs.Printing.{LinesOf}
 
 module _ {X : Type 0} (IsLine : X → List ℕ → Type 0) where
   one_more_line : (xs : List X) (x : X) (text line : List ℕ) → LinesOf IsLine xs text → IsLine x line → LinesOf IsLine (xs ++ x ∷ []) (text ++ line)
@@ -20,14 +20,19 @@ module _ {X : Type 0} (IsLine : X → List ℕ → Type 0) where
         e ∙ ap (λ t. t ++ line) f ∙ append_assoc old text line,
       )
 
--- ---- a line
+  -- the lines of all of them
+  pub all_lines : {A : Type 0} (view : A → X) (all : List A) (k : ℕ) (old now : List ℕ) → length all ≤ k
+      → (text : List ℕ) × LinesOf IsLine (map view (take k all)) text × (now ≡ old ++ text)
+      → (text : List ℕ) × LinesOf IsLine (map view all) text × (now ≡ old ++ text)
+  all_lines view all k old now w (text, are, f) = (text, subst (λ l. LinesOf IsLine (map view l) text) (take_all k all w) are, f)
 
-pub times_there : (start end : ℤ) (old one between new first last : List ℕ) → IsInstantText start first → IsInstantText end last → one ≡ old ++ first → between ≡ one ++ 32 ∷ [] → new ≡ between ++ last
-    → (times : List ℕ) × IsTimesText start end times × (new ≡ old ++ times)
-times_there start end old one between new first last a b e f g = (first ++ 32 ∷ [] ++ last, (first, last, a, b, refl), g ∙ ap (λ t. t ++ last) (f ∙ ap (λ t. t ++ 32 ∷ []) e) ∙ joined old first (32 ∷ []) last)
-  where
-    joined : (old first blank last : List ℕ) → ((old ++ first) ++ blank) ++ last ≡ old ++ (first ++ blank ++ last)
-    joined old first blank last = simp append_assoc
+-- ---- pieces, as a text is made of them and as it is said
 
-pub key_there : (old times uid organiser blank end : List ℕ) → ((((old ++ times) ++ blank) ++ uid) ++ blank) ++ (organiser ++ end) ≡ old ++ (times ++ blank ++ uid ++ blank ++ organiser ++ end)
-key_there old times uid organiser blank end = simp append_assoc
+pub four_pieces : (a b c d : List ℕ) → a ++ (b ++ (c ++ d)) ≡ ((a ++ b) ++ c) ++ d
+four_pieces a b c d = simp append_assoc
+
+pub five_pieces : (a b c d e : List ℕ) → a ++ (b ++ (c ++ (d ++ e))) ≡ (((a ++ b) ++ c) ++ d) ++ e
+five_pieces a b c d e = simp append_assoc
+
+pub six_pieces : (a b c d e f : List ℕ) → a ++ (b ++ (c ++ (d ++ (e ++ f)))) ≡ ((((a ++ b) ++ c) ++ d) ++ e) ++ f
+six_pieces a b c d e f = simp append_assoc

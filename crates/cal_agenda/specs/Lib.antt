@@ -1,3 +1,4 @@
 pub mod Gaps
 pub mod InSpan
 pub mod Printing
+pub mod Published

@@ -8,8 +8,10 @@ mod in_order;
 mod in_span;
 mod of_series;
 mod of_singles;
+pub mod published;
 pub mod text;
 
 pub use confirmed::agenda;
 pub use free_spans::{free, free_by, is_free};
+pub use published::{plain_address, publish};
 pub use text::{write_agenda, write_spans};

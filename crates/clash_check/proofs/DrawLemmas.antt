@@ -12,7 +12,7 @@ use Rattle.profile.specs.events.Confirmed.{Confirmed}
 use Rattle.cal_events.specs.Series.{series_said}
 use Rattle.cal_events.specs.declared.series.Series.{Series}
 use Rattle.clash_check.proofs.OpenLemmas.{at_place}
-use Rattle.clash_check.specs.Draws.{IsPlaceOfSeries, IsSpanBetween}
+use Rattle.clash_check.specs.Draws.{IsPlaceIn, IsSpanBetween}
 use Rattle.clash_check.specs.Opened.{IsFirstSpanFrom, IsFirstBetween}
 use Rattle.clash_check.specs.Drawings.{IsComing}
 use Rattle.clash_check.specs.declared.drawing.Wanted.{Wanted}
@@ -49,7 +49,7 @@ coming all ws i series part counted at wants start end = (
 )
 
 -- what is now wanted of a series
-pub begun : (all : Confirmed) (ws : List Wanted) (i : ℕ) (w : Wanted) → IsPlaceOfSeries (length all.series) i → length ws ≡ length all.series → (series : Event) → IsSeriesAt all i series
+pub begun : (all : Confirmed) (ws : List Wanted) (i : ℕ) (w : Wanted) → IsPlaceIn (length all.series) i → length ws ≡ length all.series → (series : Event) → IsSeriesAt all i series
     → (start end : ℤ) → IsComing all (set ws (i - 1) w) i start end ↔ IsSpanBetween series w.from w.bound start end
 begun all ws i w place count series at =
     let some = place.0 in
@@ -141,7 +141,7 @@ module _ (all : Confirmed) (ws : List Wanted) (i : ℕ) (series : Event) (part :
 -- ---- the series of a calendar
 
 -- the one at a place
-pub there : (xs : List Series) (all : List Event) (number place : ℕ) (s : Series) (series : Event) → map series_said xs ≡ all → place ≡ number - 1 → IsPlaceOfSeries (length all) number
+pub there : (xs : List Series) (all : List Event) (number place : ℕ) (s : Series) (series : Event) → map series_said xs ≡ all → place ≡ number - 1 → IsPlaceIn (length all) number
     → s ≡ get_or xs place s → slice_get all (number - 1) ≡ Some series → series_said s ≡ series
 there xs all number place s series are at counted is has =
     let long = length-map xs series_said in
@@ -151,7 +151,7 @@ there xs all number place s series are at counted is has =
     same_Some (series_said s) series (sym (at_place xs all place s are (omega (arith, long, count, at, some, most)) is) ∙ ap (λ i. slice_get all i) at ∙ has)
 
 -- there is one at each place
-pub series_at : (all : List Event) (i : ℕ) → IsPlaceOfSeries (length all) i → (series : Event) × (slice_get all (i - 1) ≡ Some series)
+pub series_at : (all : List Event) (i : ℕ) → IsPlaceIn (length all) i → (series : Event) × (slice_get all (i - 1) ≡ Some series)
 series_at all i counted =
     let some = counted.0 in
     let most = counted.1 in
@@ -159,7 +159,7 @@ series_at all i counted =
     (_, slice_get-get_or all (i - 1) none (omega (arith, some, most)))
 
 -- what is wanted there
-pub wanted_at : (ws : List Wanted) (series : List Event) (i place : ℕ) (part : Wanted) → length ws ≡ length series → IsPlaceOfSeries (length series) i → place ≡ i - 1 → part ≡ get_or ws place part
+pub wanted_at : (ws : List Wanted) (series : List Event) (i place : ℕ) (part : Wanted) → length ws ≡ length series → IsPlaceIn (length series) i → place ≡ i - 1 → part ≡ get_or ws place part
     → slice_get ws (i - 1) ≡ Some part
 wanted_at ws series i place part count counted at is =
     let some = counted.0 in
@@ -169,7 +169,7 @@ wanted_at ws series i place part count counted at is =
 -- ---- the series that are open
 
 -- the one at a place is among them
-pub opened_at : (opened : List OpenSeries) (series : List Event) (i place : ℕ) (one : OpenSeries) → length opened ≡ length series → IsPlaceOfSeries (length series) i → place ≡ i - 1 → one ≡ get_or opened place one
+pub opened_at : (opened : List OpenSeries) (series : List Event) (i place : ℕ) (one : OpenSeries) → length opened ≡ length series → IsPlaceIn (length series) i → place ≡ i - 1 → one ≡ get_or opened place one
     → Contains opened one
 opened_at opened series i place one count counted at is =
     let some = counted.0 in

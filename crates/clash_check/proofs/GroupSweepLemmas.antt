@@ -24,7 +24,7 @@ use Rattle.cal_events.specs.declared.sweep.Span.{Span}
 use Rattle.cal_events.proofs.shared_lemmas.InOneOrder.{later, none_in, head_pairs, tail_pairs}
 use Rattle.clash_check.specs.Comings.{next_cmp, item_of, span_of_next, DrawsNext}
 use Rattle.clash_check.specs.Counted.{AreAllBelow}
-use Rattle.clash_check.specs.Draws.{IsPlaceOfSeries, IsDrawable, IsSpanBetween, drawn_more, one_if}
+use Rattle.clash_check.specs.Draws.{IsPlaceIn, IsDrawable, IsSpanBetween, drawn_more, one_if}
 use Rattle.clash_check.specs.Sweeps.{HaveNoClash, IsCountDrawn}
 use Rattle.clash_check.specs.Walks.{IsBelow, place_of_walk, IsWalkedPast, IsLastWalkedPast, IsWalkThrough, BeginsAtFirst, PassesOne, MeetsLast, SharesWithNone, IsLaterEnd}
 use Rattle.clash_check.specs.declared.group_sweep.Next.{Next}
@@ -310,7 +310,7 @@ event_at all (j ∷ ks) (a ∷ events) k at (zero, w, e) = (a, subst (λ n. IsSe
 event_at all (j ∷ ks) (a ∷ events) k at (suc i, w, e) = let r = event_at all ks events k at.1 (i, omega (arith, w), e) in (r.0, r.1, later a r.0 events r.2)
 
 -- instances of two series have different keys
-keys_differ : (all : Confirmed) → HaveOwnKeys all → (i j : ℕ) (a b : Event) → IsPlaceOfSeries (length all.series) i → IsPlaceOfSeries (length all.series) j → i ≢ j → IsSeriesAt all i a → IsSeriesAt all j b
+keys_differ : (all : Confirmed) → HaveOwnKeys all → (i j : ℕ) (a b : Event) → IsPlaceIn (length all.series) i → IsPlaceIn (length all.series) j → i ≢ j → IsSeriesAt all i a → IsSeriesAt all j b
     → (x y : SaidInstance) → IsInstance a x → IsInstance b y → x.key ≢ y.key
 keys_differ all own i j a b p q differ at there x y h k same =
     elim (cases_order (i - 1) (j - 1)) [
@@ -340,7 +340,7 @@ later_ends (Some l) next = go (int_lt l.end next.end) refl
     go true e = record { one = inr refl; than_next = omega (arith, ints); than_old = let less : l.end <ℤ next.end = search (ints, rules) in omega (arith, ints, less) }
     go false e = record { one = inl refl; than_next = search (ints, rules); than_old = omega (arith, ints) }
 
-module _ (all : Confirmed) (drawable : IsDrawable all) (members : List ℕ) (places : (i : ℕ) → Contains members i → IsPlaceOfSeries (length all.series) i) (bound : ℤ) (calendar : Confirmed) (Coming : ℕ → ℤ → ℤ → Type 0) (old new : ℕ) (hs : List (Reverse Next)) (last : Option Span)
+module _ (all : Confirmed) (drawable : IsDrawable all) (members : List ℕ) (places : (i : ℕ) → Contains members i → IsPlaceIn (length all.series) i) (bound : ℤ) (calendar : Confirmed) (Coming : ℕ → ℤ → ℤ → Type 0) (old new : ℕ) (hs : List (Reverse Next)) (last : Option Span)
     (at : IsGroupAt all members bound calendar Coming old new hs last) where
   -- each is before the bound
   passed_below : (s e : ℤ) → IsAnyPassed all members bound at.walk s e → s <ℤ bound

@@ -6,7 +6,7 @@ use Rattle.std.proofs.lemmas.Option.{same_Some}
 use Rattle.profile.specs.checker.Certificates.{IsSeriesAt, AreSeriesAt}
 use Rattle.profile.specs.events.Events.{Event}
 use Rattle.profile.specs.events.Confirmed.{Confirmed}
-use Rattle.clash_check.specs.Draws.{IsPlaceOfSeries}
+use Rattle.clash_check.specs.Draws.{IsPlaceIn}
 use Rattle.clash_check.proofs.SweepLemmas.{series_there}
 
 -- ---- the series at a place
@@ -26,7 +26,7 @@ later_in : {X : Type 0} (x y : X) (xs : List X) → Contains xs y → Contains (
 later_in x y xs (k, l, e) = (suc k, omega (arith, l), e)
 
 -- there are some at these
-pub series_of : (all : Confirmed) (numbers : List ℕ) → ((i : ℕ) → Contains numbers i → IsPlaceOfSeries (length all.series) i) → (those : List Event) × AreSeriesAt all numbers those
+pub series_of : (all : Confirmed) (numbers : List ℕ) → ((i : ℕ) → Contains numbers i → IsPlaceIn (length all.series) i) → (those : List Event) × AreSeriesAt all numbers those
 series_of all [] within = ([], tt)
 series_of all (i ∷ numbers) within =
     let (a, at) = series_there all i (within i (first_in i numbers)) in

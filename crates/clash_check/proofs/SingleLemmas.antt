@@ -23,7 +23,7 @@ use Rattle.cal_events.proofs.shared_lemmas.InOneOrder.{of_mapped}
 use Rattle.cal_events.proofs.shared_lemmas.Overlaps.{abs_is}
 use Rattle.clash_cert.proofs.MakingLemmas.{singles_clear}
 use Rattle.cal_events.specs.declared.sweep.Span.{Span}
-use Rattle.clash_check.specs.Draws.{IsPlaceOfSeries, IsSpanBetween, IsDrawable, IsSingleAt, LastsAbout, drawn_more, one_if}
+use Rattle.clash_check.specs.Draws.{IsPlaceIn, IsSpanBetween, IsDrawable, IsSingleAt, LastsAbout, drawn_more, one_if}
 use Rattle.clash_check.specs.Entries.{IsMore}
 use Rattle.clash_check.specs.Singles.{span_in, HasSharer, IsSharedByNone, HasSharers, HasNoSharers, HaveSharers, HaveNoSharers, IsEachClear, IsFewMore, AreSinglesDrawn, singles_count, IsEntryInstant}
 use Rattle.clash_check.specs.Walks.{place_of_walk}
@@ -244,7 +244,7 @@ no_width a width start end lasts none b is share =
     let l = i.1 in
     omega (arith, ints, m, none, f, l)
 
-pub near_fewer : (all : Confirmed) (i : ℕ) → IsPlaceOfSeries (length all.series) i → (bound : ℤ) (x : Span) (old next : Option Span) → old ≡ Some x
+pub near_fewer : (all : Confirmed) (i : ℕ) → IsPlaceIn (length all.series) i → (bound : ℤ) (x : Span) (old next : Option Span) → old ≡ Some x
     → ((a : Event) → IsSeriesAt all i a → (x.start <ℤ place_of_walk bound next) × (place_of_walk bound next ≤ℤ bound))
     → unsigned_abs (bound -ℤ place_of_walk bound next) < unsigned_abs (bound -ℤ place_of_walk bound old)
 near_fewer all i place bound x old next e h =

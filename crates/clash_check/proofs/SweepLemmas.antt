@@ -14,7 +14,7 @@ use Rattle.cal_events.specs.Series.{AreKnownByStart}
 use Rattle.cal_events.specs.declared.sweep.Span.{Span}
 use Rattle.cal_events.proofs.shared_lemmas.Overlaps.{abs_is}
 use Rattle.clash_check.specs.Counted.{AreBelow}
-use Rattle.clash_check.specs.Draws.{IsPlaceOfSeries, IsDrawable, drawn_more, one_if}
+use Rattle.clash_check.specs.Draws.{IsPlaceIn, IsDrawable, drawn_more, one_if}
 use Rattle.clash_check.specs.Sweeps.{HaveShared, AreApart, HasShared, IsApart, IsCountDrawn}
 use Rattle.clash_check.specs.Walks.{IsBelow, place_of_walk, IsWalkedPast, IsLastWalkedPast, IsWalkThrough, BeginsAtFirst, PassesOne, MeetsLast, SharesWithNone}
 use Rattle.clash_check.specs.declared.walk.Walk.{Walk}
@@ -27,7 +27,7 @@ some_at [] k w = absurd (omega (arith, w))
 some_at (x ∷ xs) zero w = (x, refl)
 some_at (x ∷ xs) (suc k) w = some_at xs k (omega (arith, w))
 
-pub series_there : (all : Confirmed) (i : ℕ) → IsPlaceOfSeries (length all.series) i → (a : Event) × IsSeriesAt all i a
+pub series_there : (all : Confirmed) (i : ℕ) → IsPlaceIn (length all.series) i → (a : Event) × IsSeriesAt all i a
 series_there all i p = let b = p.0 in let c = p.1 in some_at all.series (i - 1) (omega (arith, b, c))
 
 pub series_in : (all : Confirmed) (i : ℕ) (a : Event) → IsSeriesAt all i a → Contains all.series a
@@ -165,7 +165,7 @@ alone_first all drawable i bound calendar Coming old new walk same series begins
       counted ∙ ap (drawn_more old) (sym (first_counted a known bound xs are Coming walk (begins a at known)));
 }
 
-module _ (all : Confirmed) (drawable : IsDrawable all) (i : ℕ) (place : IsPlaceOfSeries (length all.series) i) (bound : ℤ) (calendar : Confirmed) (Coming : ℤ → ℤ → Type 0) (old new : ℕ) (walk : Walk)
+module _ (all : Confirmed) (drawable : IsDrawable all) (i : ℕ) (place : IsPlaceIn (length all.series) i) (bound : ℤ) (calendar : Confirmed) (Coming : ℤ → ℤ → Type 0) (old new : ℕ) (walk : Walk)
     (at : IsAloneAt all i bound calendar Coming old new walk) where
   pub alone_apart : walk.next ≡ None → (a : Event) → IsSeriesAt all i a → IsApart a bound
   alone_apart end a there x y h k differ share =
@@ -296,7 +296,7 @@ module _ (all : Confirmed) (drawable : IsDrawable all) (i j : ℕ) (bound : ℤ)
       second_walk : (b : Event) → IsSeriesAt all j b → BeginsAtFirst (IsBelow b bound) (Coming second.series) bound second
       second_walk b there = starts b (subst (λ (c : Confirmed). IsSeriesAt c j b) (sym same) there) (known_at all drawable j b there)
 
-  module _ (place : IsPlaceOfSeries (length all.series) i) (calendar : Confirmed) (Coming : ℕ → ℤ → ℤ → Type 0) (old new : ℕ) (first second : Walk)
+  module _ (place : IsPlaceIn (length all.series) i) (calendar : Confirmed) (Coming : ℕ → ℤ → ℤ → Type 0) (old new : ℕ) (first second : Walk)
       (at : IsPairAt all i j bound calendar Coming old new first second) where
     pub pair_apart : first.next ≡ None → second.next ≡ None → (a b : Event) → IsSeriesAt all i a → IsSeriesAt all j b → AreApart a b bound
     pair_apart end over a b here there x y h k share =

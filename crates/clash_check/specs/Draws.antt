@@ -12,8 +12,8 @@ use Rattle.cal_events.specs.Calendar.{HaveDifferentKeys, HaveOwnKeys}
 use Rattle.cal_events.specs.Series.{AreKnownByStart}
 
 -- one of n, counted from 1
-abbrev pub IsPlaceOfSeries : ℕ → ℕ → Type 0
-IsPlaceOfSeries n i = (0 < i) × (i ≤ n)
+abbrev pub IsPlaceIn : ℕ → ℕ → Type 0
+IsPlaceIn n i = (0 < i) × (i ≤ n)
 
 -- an instance of the series starts and ends then
 abbrev pub IsInstanceSpan : Event → ℤ → ℤ → Type 0

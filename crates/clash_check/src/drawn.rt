@@ -6,7 +6,7 @@ ghost use Rattle.profile.specs.events.Events.{Event};
 ghost use Rattle.profile.specs.events.Confirmed.{Confirmed};
 ghost use Rattle.profile.specs.events.Residues.{AreResidues, IsModulus};
 ghost use Rattle.profile.specs.events.Spans.{IsLeastPast, HasNoPeriodOf, IsLeastPeriodOf, IsWidthOf};
-ghost use Rattle.clash_check.specs.Draws.{IsPlaceOfSeries, IsSingleAt, IsSpanBetween, IsDrawable, drawn_more, one_if};
+ghost use Rattle.clash_check.specs.Draws.{IsPlaceIn, IsSingleAt, IsSpanBetween, IsDrawable, drawn_more, one_if};
 
 use std::alloc::{AllocError, Global};
 
@@ -36,29 +36,29 @@ pub trait Drawn {
 
     /// The least instant from which on a series does the same after each period: seconds from 1970-01-01T00:00:00Z.
     fn regular_from(&self, i: u64) -> i64
-        requires { IsPlaceOfSeries (length (Self.calendar self.now).series) i }
+        requires { IsPlaceIn (length (Self.calendar self.now).series) i }
         ensures { (series : Event) → IsSeriesAt (Self.calendar self.now) i series → IsLeastPast series result };
 
     /// After how many days a series does the same; None where they are more than 2,932,897.
     fn period_days(&self, i: u64) -> Option<u64>
-        requires { IsPlaceOfSeries (length (Self.calendar self.now).series) i }
+        requires { IsPlaceIn (length (Self.calendar self.now).series) i }
         ensures { (series : Event) → IsSeriesAt (Self.calendar self.now) i series → MatchOption result (HasNoPeriodOf series) (IsLeastPeriodOf series) };
 
     /// How long an instance of a series can last, in seconds.
     fn width(&self, i: u64) -> i64
-        requires { IsPlaceOfSeries (length (Self.calendar self.now).series) i }
+        requires { IsPlaceIn (length (Self.calendar self.now).series) i }
         ensures width { (series : Event) → IsSeriesAt (Self.calendar self.now) i series → IsWidthOf series result }
         ensures range { (pos 0 ≤ℤ result) × (result <ℤ pos (2 ^ 50)) };
 
     /// The residues of a series modulo m seconds. Fails only when out of memory.
     fn residues(&self, alloc: Global, i: u64, m: u64) -> Result<Vec<u64>, AllocError>
-        requires place { IsPlaceOfSeries (length (Self.calendar self.now).series) i }
+        requires place { IsPlaceIn (length (Self.calendar self.now).series) i }
         requires modulus { IsModulus m }
         ensures { IfOk result (λ all. (series : Event) → IsSeriesAt (Self.calendar self.now) i series → AreResidues series m all.items) };
 
     /// From now on the instances of a series come that start from an instant on and before a bound.
     fn begin(&mut self, i: u64, from: i64, bound: i64)
-        requires { IsPlaceOfSeries (length (Self.calendar self.old).series) i }
+        requires { IsPlaceIn (length (Self.calendar self.old).series) i }
         ensures calendar { Self.calendar self.new ≡ Self.calendar self.old }
         ensures count { Self.count self.new ≡ Self.count self.old }
         ensures coming { (series : Event) → IsSeriesAt (Self.calendar self.old) i series
@@ -67,7 +67,7 @@ pub trait Drawn {
 
     /// Start and end of the next instance of a series; None where no more comes.
     fn draw(&mut self, i: u64) -> Option<(i64, i64)>
-        requires { IsPlaceOfSeries (length (Self.calendar self.old).series) i }
+        requires { IsPlaceIn (length (Self.calendar self.old).series) i }
         ensures calendar { Self.calendar self.new ≡ Self.calendar self.old }
         ensures count { Self.count self.new ≡ drawn_more (Self.count self.old) (one_if result) }
         // It is the first of those that come, or none come.
@@ -79,7 +79,7 @@ pub trait Drawn {
 
     /// Start and end of a single.
     fn single(&mut self, k: u64) -> (i64, i64)
-        requires { IsPlaceOfSeries (length (Self.calendar self.old).singles) k }
+        requires { IsPlaceIn (length (Self.calendar self.old).singles) k }
         ensures calendar { Self.calendar self.new ≡ Self.calendar self.old }
         ensures count { Self.count self.new ≡ drawn_more (Self.count self.old) 1 }
         ensures is { (single : Instance) → IsSingleAt (Self.calendar self.old) k single → (result.0 ≡ single.start) × (result.1 ≡ single.end) }

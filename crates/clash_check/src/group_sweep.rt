@@ -7,7 +7,7 @@ ghost use Rattle.profile.specs.checker.Certificates.{AreSeriesAt};
 ghost use Rattle.profile.specs.events.Events.{Event};
 ghost use Rattle.profile.specs.events.Spans.{HaveClash};
 ghost use Rattle.clash_check.specs.Counted.{AreAllBelow};
-ghost use Rattle.clash_check.specs.Draws.{IsPlaceOfSeries};
+ghost use Rattle.clash_check.specs.Draws.{IsPlaceIn};
 ghost use Rattle.clash_check.specs.Sweeps.{HaveNoClash, IsCountDrawn};
 ghost use Rattle.clash_check.specs.Comings.{next_cmp, DrawsNext};
 
@@ -46,7 +46,7 @@ pub(crate) fn sweep_group<D: Drawn>(
     members: &[u64],
     bound: i64,
 ) -> Result<bool, AllocError>
-    requires places { (i : ℕ) → Contains members.now i → IsPlaceOfSeries (length (D.calendar drawn.old).series) i }
+    requires places { (i : ℕ) → Contains members.now i → IsPlaceIn (length (D.calendar drawn.old).series) i }
     requires ascending { AllPairs ◌<◌ members.now }
     ensures calendar { D.calendar drawn.new ≡ D.calendar drawn.old }
     ensures clash { IfOk result (λ found. (all : List Event) → AreSeriesAt (D.calendar drawn.old) members.now all
@@ -81,7 +81,7 @@ fn push_next<D: Drawn>(
     drawn: &mut D,
     series: u64,
 ) -> Result<(), AllocError>
-    requires { IsPlaceOfSeries (length (D.calendar drawn.old).series) series }
+    requires { IsPlaceIn (length (D.calendar drawn.old).series) series }
     ensures calendar { D.calendar drawn.new ≡ D.calendar drawn.old }
     ensures next { OnOk result (DrawsNext (D.coming drawn.old series) (D.coming drawn.new series) (D.count drawn.old) (D.count drawn.new) series (heap_items coming.old) (heap_items coming.new)) }
     ensures others { (j : ℕ) → j ≢ series → (start end : ℤ) → D.coming drawn.new j start end ↔ D.coming drawn.old j start end }

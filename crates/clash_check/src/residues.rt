@@ -3,7 +3,7 @@ ghost use Rattle.std.specs.Prelude.{ℕ, ◌≡◌, ◌↔◌, ◌==◌, ◌<◌
 ghost use Rattle.profile.specs.checker.Certificates.{IsSeriesAt, IsPair};
 ghost use Rattle.profile.specs.events.Events.{Event};
 ghost use Rattle.profile.specs.events.Residues.{IsModulus, AreArcsApart, IsArcsApart, ResiduesHold};
-ghost use Rattle.clash_check.specs.Draws.{IsPlaceOfSeries};
+ghost use Rattle.clash_check.specs.Draws.{IsPlaceIn};
 
 use crate::drawn::Drawn;
 use cal_period::{MOST_RESIDUE_DAYS, are_apart, is_apart};
@@ -48,7 +48,7 @@ fn is_few(days: u64) -> bool
 
 /// Are the arcs of a series not longer than m, and apart?
 fn one_apart<D: Drawn>(alloc: Global, drawn: &D, i: u64, m: u64) -> Result<bool, AllocError>
-    requires place { IsPlaceOfSeries (length (D.calendar drawn.now).series) i }
+    requires place { IsPlaceIn (length (D.calendar drawn.now).series) i }
     requires modulus { IsModulus m }
     ensures { IfOk result (λ r. (a : Event) → IsSeriesAt (D.calendar drawn.now) i a → IsTrue r ↔ IsArcsApart a m) }
 {
@@ -58,8 +58,8 @@ fn one_apart<D: Drawn>(alloc: Global, drawn: &D, i: u64, m: u64) -> Result<bool,
 
 /// Are the arcs of one series apart from those of another?
 fn two_apart<D: Drawn>(alloc: Global, drawn: &D, i: u64, j: u64, m: u64) -> Result<bool, AllocError>
-    requires first { IsPlaceOfSeries (length (D.calendar drawn.now).series) i }
-    requires second { IsPlaceOfSeries (length (D.calendar drawn.now).series) j }
+    requires first { IsPlaceIn (length (D.calendar drawn.now).series) i }
+    requires second { IsPlaceIn (length (D.calendar drawn.now).series) j }
     requires modulus { IsModulus m }
     ensures { IfOk result (λ r. (a b : Event) → IsSeriesAt (D.calendar drawn.now) i a → IsSeriesAt (D.calendar drawn.now) j b → IsTrue r ↔ AreArcsApart a b m) }
 {

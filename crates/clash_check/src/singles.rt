@@ -8,7 +8,7 @@ ghost use Rattle.profile.specs.events.Starts.{IsInstance};
 ghost use Rattle.profile.specs.events.Confirmed.{IsOneOf};
 ghost use Rattle.profile.specs.events.Residues.{AreResidues};
 ghost use Rattle.profile.specs.events.Spans.{IsWidthOf};
-ghost use Rattle.clash_check.specs.Draws.{IsPlaceOfSeries};
+ghost use Rattle.clash_check.specs.Draws.{IsPlaceIn};
 ghost use Rattle.clash_check.specs.Entries.{IsMore};
 ghost use Rattle.clash_check.specs.Singles.{span_in, week, HasSharer, IsSharedByNone, HasSharers, HasNoSharers, HaveSharers, HaveNoSharers, IsEachClear, IsFewMore, AreSinglesDrawn, IsEntryInstant};
 
@@ -73,7 +73,7 @@ fn series_meets<D: Drawn>(
     i: u64,
     spans: &[Span],
 ) -> Result<bool, AllocError>
-    requires { IsPlaceOfSeries (length (D.calendar drawn.old).series) i }
+    requires { IsPlaceIn (length (D.calendar drawn.old).series) i }
     ensures calendar { D.calendar drawn.new ≡ D.calendar drawn.old }
     ensures meets { IfOk result (λ r. (a : Event) → IsSeriesAt (D.calendar drawn.old) i a → MatchBool r (HasSharers a spans.now) (HasNoSharers a spans.now)) }
     ensures count { IfOk result (λ _. (a : Event) → IsSeriesAt (D.calendar drawn.old) i a → AreClear (IsInstance a) (IsInstance a)
@@ -85,7 +85,7 @@ fn series_meets<D: Drawn>(
 
 /// Does a series of these residues modulo a week share an instant with one of the spans?
 fn meets_one<D: Drawn>(drawn: &mut D, i: u64, residues: &[u64], spans: &[Span]) -> bool
-    requires place { IsPlaceOfSeries (length (D.calendar drawn.old).series) i }
+    requires place { IsPlaceIn (length (D.calendar drawn.old).series) i }
     requires residues { (a : Event) → IsSeriesAt (D.calendar drawn.old) i a → AreResidues a week residues.now }
     ensures calendar { D.calendar drawn.new ≡ D.calendar drawn.old }
     ensures meets { (a : Event) → IsSeriesAt (D.calendar drawn.old) i a → MatchBool result (HasSharers a spans.now) (HasNoSharers a spans.now) }
@@ -103,7 +103,7 @@ fn meets_one<D: Drawn>(drawn: &mut D, i: u64, residues: &[u64], spans: &[Span]) 
 /// Does a span share an instant before the horizon with an instance of a series of these residues modulo a week? Nothing is drawn where one of them
 /// has no length, and where no instance at these residues may.
 fn meets<D: Drawn>(drawn: &mut D, i: u64, residues: &[u64], span: Span) -> bool
-    requires place { IsPlaceOfSeries (length (D.calendar drawn.old).series) i }
+    requires place { IsPlaceIn (length (D.calendar drawn.old).series) i }
     requires residues { (a : Event) → IsSeriesAt (D.calendar drawn.old) i a → AreResidues a week residues.now }
     ensures calendar { D.calendar drawn.new ≡ D.calendar drawn.old }
     ensures meets { (a : Event) → IsSeriesAt (D.calendar drawn.old) i a → MatchBool result (HasSharer a span.start span.end) (IsSharedByNone a span.start span.end) }
@@ -134,7 +134,7 @@ fn holds_instant(span: Span) -> bool
 /// Does one of the instances of a series that start less than its width before a span, or in it, share an instant with it? Of a series that is
 /// clear at most two of these are over by the start of the span, and then the next one shares an instant.
 fn meets_near<D: Drawn>(drawn: &mut D, i: u64, span: Span, width: i64) -> bool
-    requires place { IsPlaceOfSeries (length (D.calendar drawn.old).series) i }
+    requires place { IsPlaceIn (length (D.calendar drawn.old).series) i }
     requires span { (span.start <ℤ span.end) × (span.start <ℤ horizon) }
     requires width { (pos 0 <ℤ width) × (width <ℤ pos (2 ^ 50)) }
     requires of { (a : Event) → IsSeriesAt (D.calendar drawn.old) i a → IsWidthOf a width }

@@ -4,7 +4,7 @@ ghost use Rattle.profile.specs.checker.Certificates.{IsSeriesAt, AreSeriesAt};
 ghost use Rattle.profile.specs.events.Events.{Event};
 ghost use Rattle.profile.specs.events.Spans.{IsGreatestWidth, IsPastAll, IsPeriodOf, IsSpan};
 ghost use Rattle.profile.specs.series.Periods.{most_period, IsMultiple};
-ghost use Rattle.clash_check.specs.Draws.{IsPlaceOfSeries};
+ghost use Rattle.clash_check.specs.Draws.{IsPlaceIn};
 
 use crate::drawn::Drawn;
 use cal_period::periods_are_multiples;
@@ -14,7 +14,7 @@ const MOST_DAYS: u64 = 2_932_897;
 
 /// Do these series do the same after so many days, from an instant on?
 pub(crate) fn is_span<D: Drawn>(drawn: &D, numbers: &[u64], from: i64, days: u64) -> bool
-    requires { (i : ℕ) → Contains numbers.now i → IsPlaceOfSeries (length (D.calendar drawn.now).series) i }
+    requires { (i : ℕ) → Contains numbers.now i → IsPlaceIn (length (D.calendar drawn.now).series) i }
     ensures is { (all : List Event) → AreSeriesAt (D.calendar drawn.now) numbers.now all → IsTrue result ↔ IsSpan all from days }
     ensures few { result ≡ true → days ≤ most_period }
 {
@@ -30,7 +30,7 @@ fn is_days(days: u64) -> bool
 
 /// Do all these series do the same after so many days, from an instant on?
 fn all_repeat<D: Drawn>(drawn: &D, numbers: &[u64], from: i64, days: u64) -> bool
-    requires places { (i : ℕ) → Contains numbers.now i → IsPlaceOfSeries (length (D.calendar drawn.now).series) i }
+    requires places { (i : ℕ) → Contains numbers.now i → IsPlaceIn (length (D.calendar drawn.now).series) i }
     requires days { (0 < days) × (days ≤ most_period) }
     ensures { (all : List Event) → AreSeriesAt (D.calendar drawn.now) numbers.now all → IsTrue result ↔ ((a : Event) → Contains all a → IsPastAll a from × IsPeriodOf a days) }
 {
@@ -44,7 +44,7 @@ fn all_repeat<D: Drawn>(drawn: &D, numbers: &[u64], from: i64, days: u64) -> boo
 
 /// Does a series do the same after so many days, from an instant on?
 fn repeats<D: Drawn>(drawn: &D, i: u64, from: i64, days: u64) -> bool
-    requires place { IsPlaceOfSeries (length (D.calendar drawn.now).series) i }
+    requires place { IsPlaceIn (length (D.calendar drawn.now).series) i }
     requires days { (0 < days) × (days ≤ most_period) }
     ensures { (a : Event) → IsSeriesAt (D.calendar drawn.now) i a → IsTrue result ↔ (IsPastAll a from × IsPeriodOf a days) }
 {
@@ -65,7 +65,7 @@ fn is_multiple(days: u64, period: u64) -> bool
 
 /// The greatest width of these series, of which there is one at least: in seconds.
 pub(crate) fn greatest_width<D: Drawn>(drawn: &D, numbers: &[u64]) -> i64
-    requires { (i : ℕ) → Contains numbers.now i → IsPlaceOfSeries (length (D.calendar drawn.now).series) i }
+    requires { (i : ℕ) → Contains numbers.now i → IsPlaceIn (length (D.calendar drawn.now).series) i }
     ensures is { (all : List Event) → 0 < length numbers.now → AreSeriesAt (D.calendar drawn.now) numbers.now all → IsGreatestWidth all result }
     ensures range { (pos 0 ≤ℤ result) × (result <ℤ pos (2 ^ 50)) }
 {

@@ -4,7 +4,7 @@ ghost use Rattle.profile.specs.checker.Instances.{Instance};
 ghost use Rattle.profile.specs.checker.Certificates.{IsSeriesAt};
 ghost use Rattle.profile.specs.events.Events.{Event};
 ghost use Rattle.clash_check.specs.Counted.{AreBelow};
-ghost use Rattle.clash_check.specs.Draws.{IsPlaceOfSeries};
+ghost use Rattle.clash_check.specs.Draws.{IsPlaceIn};
 ghost use Rattle.clash_check.specs.Sweeps.{HaveShared, AreApart, HasShared, IsApart, IsCountDrawn};
 
 use crate::drawn::Drawn;
@@ -12,8 +12,8 @@ use crate::walk::{Turn, Walk, turn_of};
 
 /// Does an instance of the one share an instant before the horizon with an instance of the other? On no all of both were drawn, on yes some.
 pub(crate) fn sweep_pair<D: Drawn>(drawn: &mut D, i: u64, j: u64, bound: i64) -> bool
-    requires first { IsPlaceOfSeries (length (D.calendar drawn.old).series) i }
-    requires second { IsPlaceOfSeries (length (D.calendar drawn.old).series) j }
+    requires first { IsPlaceIn (length (D.calendar drawn.old).series) i }
+    requires second { IsPlaceIn (length (D.calendar drawn.old).series) j }
     requires two { i ≢ j }
     ensures calendar { D.calendar drawn.new ≡ D.calendar drawn.old }
     ensures shared { (a b : Event) → IsSeriesAt (D.calendar drawn.old) i a → IsSeriesAt (D.calendar drawn.old) j b
@@ -45,7 +45,7 @@ pub(crate) fn sweep_pair<D: Drawn>(drawn: &mut D, i: u64, j: u64, bound: i64) ->
 
 /// Do two instances of a series share an instant before the horizon? On no all of it were drawn, on yes some.
 pub(crate) fn sweep_alone<D: Drawn>(drawn: &mut D, i: u64, bound: i64) -> bool
-    requires { IsPlaceOfSeries (length (D.calendar drawn.old).series) i }
+    requires { IsPlaceIn (length (D.calendar drawn.old).series) i }
     ensures calendar { D.calendar drawn.new ≡ D.calendar drawn.old }
     ensures shared { (a : Event) → IsSeriesAt (D.calendar drawn.old) i a → MatchBool result (HasShared a bound) (IsApart a bound) }
     ensures count { (a : Event) → IsSeriesAt (D.calendar drawn.old) i a

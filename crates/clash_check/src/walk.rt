@@ -3,7 +3,7 @@ ghost use Rattle.std.specs.Prelude.{ℕ, ℤ, ◌≡◌, ◌≢◌, ◌↔◌, �
 ghost use Rattle.profile.specs.checker.Certificates.{IsSeriesAt};
 ghost use Rattle.profile.specs.events.Events.{Event};
 ghost use Rattle.cal_events.specs.Series.{AreKnownByStart};
-ghost use Rattle.clash_check.specs.Draws.{IsPlaceOfSeries, drawn_more, one_if};
+ghost use Rattle.clash_check.specs.Draws.{IsPlaceIn, drawn_more, one_if};
 ghost use Rattle.clash_check.specs.Walks.{IsBelow, BeginsAtFirst, IsWalkThrough, PassesOne, MeetsLast, SharesWithNone, IsLaterEnd, IsNextTurn};
 
 use crate::drawn::Drawn;
@@ -23,7 +23,7 @@ pub(crate) struct Walk {
 impl Walk {
     /// A walk that is at the first of those that start before a bound.
     pub(crate) fn begin<D: Drawn>(drawn: &mut D, series: u64, bound: i64) -> Walk
-        requires { IsPlaceOfSeries (length (D.calendar drawn.old).series) series }
+        requires { IsPlaceIn (length (D.calendar drawn.old).series) series }
         ensures calendar { D.calendar drawn.new ≡ D.calendar drawn.old }
         ensures series { result.series ≡ series }
         ensures begins { (a : Event) → IsSeriesAt (D.calendar drawn.old) series a → AreKnownByStart a
@@ -42,7 +42,7 @@ impl Walk {
 
     /// Past its next instance: the one after that is drawn.
     pub(crate) fn past<D: Drawn>(self, drawn: &mut D, next: Span) -> Walk
-        requires place { IsPlaceOfSeries (length (D.calendar drawn.old).series) self.series }
+        requires place { IsPlaceIn (length (D.calendar drawn.old).series) self.series }
         requires next { self.next ≡ Some next }
         ensures calendar { D.calendar drawn.new ≡ D.calendar drawn.old }
         ensures series { result.series ≡ self.series }
@@ -79,7 +79,7 @@ pub(crate) fn meets(last: Option<Span>, other: Span) -> bool
 
 /// The next instance of a series; None where no more comes.
 pub(crate) fn draw_span<D: Drawn>(drawn: &mut D, series: u64) -> Option<Span>
-    requires { IsPlaceOfSeries (length (D.calendar drawn.old).series) series }
+    requires { IsPlaceIn (length (D.calendar drawn.old).series) series }
     ensures calendar { D.calendar drawn.new ≡ D.calendar drawn.old }
     ensures count { D.count drawn.new ≡ drawn_more (D.count drawn.old) (one_if result) }
     ensures drawn { MatchOption result ((start end : ℤ) → D.coming drawn.old series start end → ⊥)

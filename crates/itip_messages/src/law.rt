@@ -52,7 +52,7 @@ pub fn replies_read_back()
     ical_lines::lines_read_back();
 }
 
-/// And each of its VEVENTs says the answer that was given: the UID, the organiser, SEQUENCE, the moment as DTSTAMP, the
+/// Each VEVENT of a REPLY that a room writes says the answer that was given: the UID, the organiser, SEQUENCE, the moment as DTSTAMP, the
 /// instance that is answered, and the room as its one attendee, who has accepted or declined (RFC 5546 3.2.3). Required are
 /// a UID and addresses as a message's are read: of the right length, in lower case.
 pub fn answers_read_back()

@@ -11,3 +11,4 @@ pub mod Books
 pub mod Taking
 pub mod Replying
 pub mod Storing
+pub mod Showing

@@ -111,6 +111,11 @@ RepresentsAt book uid None (Some stored) = ⊥
 RepresentsAt book uid (Some meeting) None = ⊥
 RepresentsAt book uid (Some meeting) (Some stored) = RepresentsStored meeting book stored
 
--- the organiser keeps this book: of each UID the last store
+-- the UIDs of these stores are texts
+abbrev pub AreTexts : List Stored → Type 0
+AreTexts stores = (stored : Stored) → Contains stores stored → (uid : Text) × (text_octets uid ≡ stored.uid)
+
+-- the organiser keeps this book: of each UID the last store. What was stored has UIDs that are text
 pub record Keeps (organiser : Organiser) (book : OrganiserBook) : Type 0 where
+  pub texts : AreTexts book.stores
   pub each : (uid : Text) → RepresentsAt book (text_octets uid) (get same_text organiser.meetings uid) (last_store (text_octets uid) book)

@@ -1,18 +1,22 @@
 //! An organiser's meetings: the last store of each, what was made of it, and what its attendees answered to it.
 
-ghost use Rattle.std.specs.Prelude.{◌≡◌, ℕ, List, map, option_map, IfOk, IfErr, OnOk, OnErr};
+ghost use Rattle.std.specs.Prelude.{◌≡◌, ◌++◌, ℕ, List, map, option_map, IfOk, IfErr, OnOk, OnErr};
+ghost use Rattle.std.specs.Cmp.Lexicographic.{slice_cmp};
 ghost use Rattle.std.specs.List.{AllZip};
+ghost use Rattle.std.specs.List.Sorted.{IsPermutation, IsSortedByKey};
+ghost use Rattle.std.specs.Ordering.{nat_cmp};
 ghost use Rattle.indexmap.specs.IndexMap.{get};
 ghost use Rattle.ical_lines.specs.Fault.{RefusesOnly, RefusesBy};
 ghost use Rattle.ical_values.specs.Octets.{address_octets, text_octets};
 ghost use Rattle.profile.specs.events.EventComponents as events;
 ghost use Rattle.profile.specs.events.EventComponents.{Attendee, EventComponent};
 ghost use Rattle.profile.specs.events.Messages as profile;
-ghost use Rattle.profile.specs.organisers.Organisers.{OrganiserBook, empty_organiser, after_reply, IsSeen, IsShown, IsStore};
+ghost use Rattle.profile.specs.organisers.Organisers.{OrganiserBook, empty_organiser, after_reply, IsSeen, IsShown, IsStore, ShowsMeetings};
 ghost use Rattle.cal_events.specs.Component.{participation_of, method_said};
 ghost use Rattle.itip_order.specs.Parts.{slot_of};
 ghost use Rattle.itip_messages.specs.Message.{SaysComponent, RepresentsMessage};
 ghost use Rattle.organiser_books.specs.Representation.{Keeps, address_of, same_text};
+ghost use Rattle.organiser_books.specs.Showing.{AreUids, ShowsLast, octets_at};
 ghost use Rattle.organiser_books.specs.Attending.{gone_among, is_told, lists_of, AreAttending};
 ghost use Rattle.organiser_books.specs.Storing.{LastAttends, SendsObject, calls_off, is_told_by};
 ghost use Rattle.organiser_books.specs.Calls.{AnswersRefresh, CallFault, MayTake, is_call_fault, sent_of};
@@ -188,6 +192,42 @@ impl Organiser {
         Ok(Some(octets))
     }
 
+    /// The texts of all meetings, each as `text` shows it, one after another by the octets of their UIDs. It sorts the UIDs, and else grows with what
+    /// it writes. Fails only when out of memory.
+    pub fn texts(&self) -> Result<Vec<u8>, AllocError>
+        ensures { IfOk result (λ octets. (book : OrganiserBook) → Keeps self.now book → ShowsMeetings (address_of self.now) book octets.items) }
+    {
+        let mut octets = Vec::new(self.alloc);
+        let uids = self.uids()?;
+        for uid in &uids {
+            self.append_text(*uid, &mut octets)?;
+        }
+        Ok(octets)
+    }
+
+    /// The UIDs of all meetings, by their octets. Fails only when out of memory.
+    fn uids(&self) -> Result<Vec<&Text>, AllocError>
+        ensures { IfOk result (λ uids. AreUids self.now uids.items) }
+    {
+        let mut uids = Vec::new(self.alloc);
+        for uid in self.meetings.keys() {
+            uids.push(uid)?;
+        }
+        sort(&mut uids);
+        Ok(uids)
+    }
+
+    /// Appends the text of a meeting that is known.
+    fn append_text(&self, uid: &Text, octets: &mut Vec<u8>) -> Result<(), AllocError>
+        ensures { OnOk result ((more : List ℕ) × ShowsLast self.now (text_octets uid.now) more × (octets.new.items ≡ octets.old.items ++ more)) }
+    {
+        let Some(text) = self.text(uid)? else {
+            return Ok(());
+        };
+        octets.extend_from_slice(text.as_slice())?;
+        Ok(())
+    }
+
     /// Refused: 60 for an object that asks for something else, 70 for one of another organiser.
     fn expect(&self, object: &Message, method: Method) -> Result<(), Fault>
         ensures kind { OnOk result (method_said object.now.method ≡ method_said method) }
@@ -249,6 +289,14 @@ impl Organiser {
         };
         gone(self.alloc, &self.address, &last.attending, now, called_off)
     }
+}
+
+/// Puts UIDs in order, by their octets.
+fn sort(uids: &mut Vec<&Text>)
+    ensures same { IsPermutation uids.old.items uids.new.items }
+    ensures rises { IsSortedByKey octets_at (slice_cmp nat_cmp) uids.new.items }
+{
+    uids.sort_unstable_by(|a, b| a.as_str().cmp(b.as_str()));
 }
 
 /// Copies of what these components say, in their order. It fails only when out of memory.

@@ -58,7 +58,7 @@ pub fn kept_texts_pass()
     cal_zones::zone_reads_back();
 }
 
-/// And that calendar spells exactly what the room has confirmed: as many singles, as many series, and the same instances.
+/// The kept calendar of a room spells exactly what the room has confirmed: as many singles, as many series, and the same instances.
 pub fn kept_texts_spell()
     ensures { (room words : List ℕ) (zone : Option Zone) (deliveries : List Delivery) (book : Book) (text : List ℕ) → IsRoomZone words zone
         → ((taken : Delivery) → Contains deliveries taken → IsDelivered room zone taken) → Runs empty_book deliveries book

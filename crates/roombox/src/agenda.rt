@@ -1,17 +1,15 @@
 //! `agenda`: what a room has confirmed in a span of time, or when it is free.
 
 use crate::command_line::BadWord;
-use crate::host::{ErrorPrinter, read_file, read_room, refuse_word, report_file};
+use crate::host::{ErrorPrinter, read_file, read_room, read_zone, refuse_word, report_file};
 use cal_events::Span;
-use ical_values::Stamp;
-use sched_box::DeviceWriter;
-use sched_cli::{run_agenda, run_free};
+use cal_zones::Zone;
+use ical_values::{Address, Stamp};
+use sched_box::{DeviceWriter, Output};
+use sched_cli::{run_agenda, run_free, run_published};
 use std::alloc::Global;
 use std::io;
 use std::rt::Runtime;
-
-/// 0001-01-01T00:00:00Z, in seconds from 1970: where a span begins that has no `--from`.
-const FIRST: i64 = -62_135_596_800;
 
 /// 10000-01-01T00:00:00Z: where a span ends that has no `--until`. Nothing is confirmed from then on.
 const LAST: i64 = 253_402_300_800;
@@ -23,7 +21,28 @@ pub struct Agenda<'a> {
     pub room: &'a str,
     pub from: Option<&'a str>,
     pub until: Option<&'a str>,
-    pub is_free: bool,
+    pub zone: Option<&'a str>,
+    pub form: Form,
+}
+
+/// What is printed.
+#[derive(Clone, Copy, PartialEq, Eq)]
+pub enum Form {
+    /// A line for each instance.
+    Lines,
+    /// A line for each span in which the room is free.
+    Free,
+    /// An iCalendar object.
+    Object,
+}
+
+/// What is asked, once its words are read.
+struct Asked<'a> {
+    room: &'a Address,
+    from: Stamp,
+    until: i64,
+    zone: Option<Zone>,
+    form: Form,
 }
 
 /// Prints what the calendar of a file confirms for a room in a span, or when the room is free there.
@@ -36,21 +55,29 @@ pub(crate) fn invoke_agenda<R: Runtime + AllocGlobal>(
         Ok(room) => room,
         Err(status) => return status,
     };
-    let span = match span_of(agenda) {
+    let (from, until) = match span_of(agenda) {
         Ok(span) => span,
         Err(word) => return refuse_word(rt, alloc, word),
+    };
+    let zone = match zone_of(rt, alloc, agenda.zone) {
+        Ok(zone) => zone,
+        Err(status) => return status,
     };
     let mut errors = DeviceWriter::new(ErrorPrinter { to: rt });
     let calendar = match read_file(rt, alloc, agenda.calendar) {
         Ok(octets) => octets,
         Err(fault) => return report_file(&mut errors, fault),
     };
-    let calendar = calendar.as_slice();
+    let asked = Asked {
+        room: &room,
+        from,
+        until,
+        zone,
+        form: agenda.form,
+    };
     let mut writer = DeviceWriter::new(io::writer(rt));
-    if !agenda.is_free {
-        return run_agenda(alloc, calendar, &room, span, &mut writer, &mut errors);
-    }
-    let status = run_free(alloc, calendar, &room, span, &mut writer, &mut errors);
+    let status = answer(alloc, calendar.as_slice(), asked, &mut writer, &mut errors);
+    // Without an end or a beginning there is no question that the status could answer.
     if status == NOT_FREE && (agenda.from.is_none() || agenda.until.is_none()) {
         return 0;
     }
@@ -60,23 +87,55 @@ pub(crate) fn invoke_agenda<R: Runtime + AllocGlobal>(
 /// The status where something is confirmed in the span.
 const NOT_FREE: u8 = 1;
 
-/// The span of the words; else the one that is wrong.
-fn span_of<'a>(agenda: Agenda<'a>) -> Result<Span, BadWord<'a>> {
-    let start = match agenda.from {
-        Some(word) => instant_of(word).ok_or(BadWord::From(word))?,
-        None => FIRST,
+/// Prints what is asked of a calendar.
+fn answer<W: Output, E: Output>(
+    alloc: Global,
+    calendar: &[u8],
+    asked: Asked<'_>,
+    writer: &mut W,
+    errors: &mut E,
+) -> u8 {
+    let Asked {
+        room,
+        from,
+        until,
+        zone,
+        form,
+    } = asked;
+    let span = Span {
+        start: from.instant(),
+        end: until,
+    };
+    match form {
+        Form::Lines => run_agenda(alloc, calendar, room, span, zone, writer, errors),
+        Form::Free => run_free(alloc, calendar, room, span, zone, writer, errors),
+        Form::Object => run_published(alloc, calendar, room, from, until, writer, errors),
+    }
+}
+
+/// The span of the words, from the first and before the second; else the one that is wrong.
+fn span_of<'a>(agenda: Agenda<'a>) -> Result<(Stamp, i64), BadWord<'a>> {
+    let from = match agenda.from {
+        Some(word) => Stamp::read(word).map_err(|_| BadWord::From(word))?,
+        None => Stamp::least(),
     };
     let Some(word) = agenda.until else {
-        return Ok(Span { start, end: LAST });
+        return Ok((from, LAST));
     };
-    match instant_of(word) {
-        Some(end) if start < end => Ok(Span { start, end }),
+    match Stamp::read(word) {
+        Ok(until) if from < until => Ok((from, until.instant())),
         _ => Err(BadWord::Until(word)),
     }
 }
 
-/// The instant that a word spells, as `20250415T070000Z` does.
-fn instant_of(word: &str) -> Option<i64> {
-    let stamp = Stamp::read(word).ok()?;
-    Some(stamp.instant())
+/// The zone of the words, if there are any; else the status of a usage fault.
+fn zone_of<R: Runtime + AllocGlobal>(
+    rt: &R,
+    alloc: Global,
+    words: Option<&str>,
+) -> Result<Option<Zone>, u8> {
+    let Some(words) = words else {
+        return Ok(None);
+    };
+    Ok(Some(read_zone(rt, alloc, words)?.zone()))
 }

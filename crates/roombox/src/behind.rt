@@ -9,7 +9,7 @@ use ical_values::Address;
 use sched_box::{DeviceReader, DeviceWriter, Input, Output};
 use sched_cli::commands::{KeptText, run_keep, run_serve};
 use sched_cli::status::report_read;
-use sched_cli::{Tally, WayBack, run_adapt, run_returned, run_serve_report};
+use sched_cli::{Tally, WayBack, run_adapt, run_meetings, run_returned, run_serve_report};
 use sched_devices::DiskFolder;
 use sched_doors::{AdaptedInbox, Door};
 use std::alloc::Global;
@@ -42,6 +42,7 @@ pub(crate) enum StreamWork<'a> {
     Adapt { report: bool },
     Serve { report: bool },
     Keep { room: &'a Address, kept: KeptText },
+    Meetings { organiser: &'a Address },
 }
 
 /// Does some work behind a door, with the VTIMEZONEs of a file for it, if one is given. Where that can't be read, nothing else is.
@@ -130,6 +131,7 @@ fn run_stream<R: Runtime + AllocGlobal>(
         StreamWork::Adapt { report } => adapt_behind(rt, alloc, &mut door, report),
         StreamWork::Serve { report } => serve_behind(rt, alloc, &mut door, report),
         StreamWork::Keep { room, kept } => keep_behind(rt, alloc, &mut door, room, kept),
+        StreamWork::Meetings { organiser } => show_behind(rt, alloc, &mut door, organiser),
     }
 }
 
@@ -174,6 +176,20 @@ fn keep_behind<R: Runtime + AllocGlobal, I: Input + Drop>(
     };
     let mut writer = DeviceWriter::new(io::writer(rt));
     let status = run_keep(alloc, room, kept, door, &mut writer, &mut said);
+    say_at_end(rt, door, said.as_slice(), status)
+}
+
+fn show_behind<R: Runtime + AllocGlobal, I: Input + Drop>(
+    rt: &R,
+    alloc: Global,
+    door: &mut Door<'_, '_, I>,
+    organiser: &Address,
+) -> u8 {
+    let Ok(mut said) = Vec::with_capacity(alloc, SAID) else {
+        return no_memory(rt);
+    };
+    let mut writer = DeviceWriter::new(io::writer(rt));
+    let status = run_meetings(alloc, organiser, door, &mut writer, &mut said);
     say_at_end(rt, door, said.as_slice(), status)
 }
 

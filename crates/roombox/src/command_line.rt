@@ -1,12 +1,12 @@
 //! The words of the command line (clap reads them).
 
-use crate::agenda::Agenda;
+use crate::agenda::{Agenda, Form};
 use clap::error::ErrorKind;
 use clap::{Arg, ArgAction, ArgMatches, Command, Error};
 use sched_cli::commands::KeptText;
 use std::alloc::{AllocError, Global};
 
-/// What a command line asks for. ROOM, N and NUMBER are still words here; CALENDAR, CERTIFICATE, CONFIG, INBOX, OUTBOX,
+/// What a command line asks for. ROOM, ORGANISER, N and NUMBER are still words here; CALENDAR, CERTIFICATE, CONFIG, INBOX, OUTBOX,
 /// ORIGINAL and FILE are paths.
 #[derive(Clone, Copy)]
 pub enum Invocation<'a> {
@@ -17,6 +17,10 @@ pub enum Invocation<'a> {
     Keep {
         room: &'a str,
         kept: KeptText,
+        reading: Reading<'a>,
+    },
+    Meetings {
+        organiser: &'a str,
         reading: Reading<'a>,
     },
     Adapt {
@@ -114,6 +118,22 @@ memory.
 
 Example: roombox keep mailto:r1@example.com < examples/first-request.ics-stream";
 
+const MEETINGS: &str =
+    "Reads what serve reads, and prints what an organiser has stored after it, with the answers seen.";
+
+const MEETINGS_MORE: &str = "\
+Input: a preamble and objects, as for `roombox serve`.
+
+Output: an iCalendar object for each meeting, by the octets of their UIDs: as it was last sent,
+without METHOD, and of each attendee its answer, as PARTSTAT, with SCHEDULE-STATUS=1.1 where it
+was sent a message. Nothing where none is stored.
+
+Exit status: 0 done, also where objects were refused; 2 usage; 3 the preamble is refused or
+doesn't name ORGANISER (90), FILE is refused, or the input is too long; 4 a device failed; 5 out
+of memory. docs/REFERENCE.md lists the numbers.
+
+Example: roombox meetings mailto:ann@example.com < examples/organiser-conversation.ics-stream";
+
 const CHECK: &str =
     "Prints yes where a certificate shows that no two confirmed instances of a room share an instant.";
 
@@ -128,7 +148,8 @@ isn't there; 5 out of memory.
 
 Example: roombox check kept.ics kept.cert mailto:r1@example.com";
 
-const AGENDA: &str = "Prints what a room has confirmed in a span of time, or when it is free.";
+const AGENDA: &str =
+    "Prints what a room has confirmed in a span of time, or when it is free: as lines, or as iCalendar.";
 
 const AGENDA_MORE: &str = "\
 Input: a calendar that `roombox keep` prints. Standard input isn't read.
@@ -137,6 +158,12 @@ Output: a line for each instance that shares an instant with the span: its start
 UID, its organiser; by start. With --free a line for each span in which nothing is confirmed: its
 start and its end. A stamp is in UTC, as 20250415T070000Z; the span ends before --until. Without
 --from and --until it is all time up to the year 10000, which a series without end fills.
+
+With --zone start and end are followed by the local times of that zone, in the words that `roombox
+expand --help` explains. It only shows them: the calendar names the zone of its room itself.
+
+With --ics, --from and --until it prints an iCalendar object that programs subscribe to, with a
+VEVENT for each instance, all times in UTC also with --zone, and who booked it as SUMMARY.
 
 Exit status: 0 done, and with --free, --from and --until: the whole span is free; 1 with these: it
 isn't; 2 usage; 3 CALENDAR is refused: standard error has the number, which docs/REFERENCE.md lists;
@@ -237,7 +264,10 @@ const ZONE: &str = "+0000";
 
 const ROOM_HELP: &str = "The room's address, as mailto:r1@example.com";
 
-const NUMBER_HELP: &str = "The number behind REFUSED;OBJECT=k:, `refused` or `no`";
+const ORGANISER_HELP: &str = "The organiser's address, as mailto:ann@example.com";
+
+const NUMBER_HELP: &str =
+    "The number behind REFUSED;OBJECT=k:, `refused` or `no`; or the whole line that has it";
 
 const CALENDAR_HELP: &str = "The file of the calendar, as `roombox keep` prints it";
 
@@ -270,6 +300,7 @@ pub enum BadWord<'a> {
     Room(&'a str),
     Limit(&'a str),
     Zone(&'a str),
+    Organiser(&'a str),
     Number(&'a str),
     From(&'a str),
     Until(&'a str),
@@ -286,6 +317,9 @@ pub fn fault_of(alloc: Global, bad: BadWord<'_>) -> Result<Error, AllocError> {
         )?,
         BadWord::Zone(word) => format!(in alloc;
             "invalid value '{word}' for '--zone <WORDS>': it isn't an offset, or two offsets and when each begins, such as '-0500 -0400 11 1SU 0200 3 2SU 0200'"
+        )?,
+        BadWord::Organiser(word) => format!(in alloc;
+            "invalid value '{word}' for '<ORGANISER>': it isn't an address such as mailto:ann@example.com"
         )?,
         BadWord::Number(word) => format!(in alloc;
             "invalid value '{word}' for '[NUMBER]': it isn't the number of a refusal, such as 43"
@@ -310,6 +344,7 @@ fn program<'a>(alloc: Global) -> Result<Command<'a>, AllocError> {
     with_reading(alloc, program)?
         .subcommand(serve_command(alloc)?)?
         .subcommand(keep_command(alloc)?)?
+        .subcommand(meetings_command(alloc)?)?
         .subcommand(adapt_command(alloc)?)?
         .subcommand(agenda_command(alloc)?)?
         .subcommand(check_command(alloc)?)?
@@ -341,6 +376,14 @@ fn keep_command<'a>(alloc: Global) -> Result<Command<'a>, AllocError> {
         .arg(certificate)?
         .arg(required(alloc, "ROOM", ROOM_HELP))?;
     with_reading(alloc, keep)
+}
+
+fn meetings_command<'a>(alloc: Global) -> Result<Command<'a>, AllocError> {
+    let meetings = Command::new(alloc, "meetings")
+        .about(MEETINGS)
+        .after_help(MEETINGS_MORE)
+        .arg(required(alloc, "ORGANISER", ORGANISER_HELP))?;
+    with_reading(alloc, meetings)
 }
 
 fn adapt_command<'a>(alloc: Global) -> Result<Command<'a>, AllocError> {
@@ -395,6 +438,17 @@ fn agenda_command<'a>(alloc: Global) -> Result<Command<'a>, AllocError> {
         .long("free")
         .action(ArgAction::SetTrue)
         .help("Print when the room is free; status 1 where it isn't all of the span");
+    let zone = Arg::new(alloc, "zone")
+        .long("zone")
+        .value_name("WORDS")
+        .help("The zone of the local times to print too");
+    let ics = Arg::new(alloc, "ics")
+        .long("ics")
+        .action(ArgAction::SetTrue)
+        .help("Print an iCalendar object for subscribing; with --from and --until")
+        .conflicts_with("free")?
+        .requires_arg("from")?
+        .requires_arg("until")?;
     Command::new(alloc, "agenda")
         .about(AGENDA)
         .after_help(AGENDA_MORE)
@@ -402,7 +456,9 @@ fn agenda_command<'a>(alloc: Global) -> Result<Command<'a>, AllocError> {
         .arg(required(alloc, "ROOM", ROOM_HELP))?
         .arg(from)?
         .arg(until)?
-        .arg(free)
+        .arg(zone)?
+        .arg(free)?
+        .arg(ics)
 }
 
 fn expand_command<'a>(alloc: Global) -> Result<Command<'a>, AllocError> {
@@ -464,13 +520,18 @@ fn invocation_of<'a>(matches: &ArgMatches<'a>) -> Invocation<'a> {
             kept: kept_of(words),
             reading: reading_of(words),
         },
+        Some(("meetings", words)) => Invocation::Meetings {
+            organiser: words.get_str("ORGANISER").unwrap_or(""),
+            reading: reading_of(words),
+        },
         Some(("adapt", words)) => adapt_of(words),
         Some(("agenda", words)) => Invocation::Agenda(Agenda {
             calendar: words.get_str("CALENDAR").unwrap_or(""),
             room: words.get_str("ROOM").unwrap_or(""),
             from: words.get_str("from"),
             until: words.get_str("until"),
-            is_free: words.get_flag("free"),
+            zone: words.get_str("zone"),
+            form: form_of(words),
         }),
         Some(("check", words)) => Invocation::Check {
             calendar: words.get_str("CALENDAR").unwrap_or(""),
@@ -498,6 +559,16 @@ fn invocation_of<'a>(matches: &ArgMatches<'a>) -> Invocation<'a> {
             report: false,
             reading: reading_of(matches),
         },
+    }
+}
+
+fn form_of<'a>(words: &ArgMatches<'a>) -> Form {
+    if words.get_flag("free") {
+        Form::Free
+    } else if words.get_flag("ics") {
+        Form::Object
+    } else {
+        Form::Lines
     }
 }
 

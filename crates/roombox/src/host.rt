@@ -12,7 +12,7 @@ use sched_box::{DeviceReader, DeviceWriter, Output};
 use sched_cli::commands::{KeptText, run_check, run_keep, run_serve};
 use sched_cli::status::{USAGE, report_device, report_memory, report_read, report_too_long};
 use sched_cli::{
-    Tally, run_expand, run_explain, run_explain_object, run_folders, run_serve_report,
+    Tally, run_expand, run_explain, run_explain_object, run_folders, run_meetings, run_serve_report,
 };
 use sched_devices::{DiskFolder, Folder};
 use std::alloc::Global;
@@ -120,6 +120,12 @@ fn invoke<R: Runtime + AllocGlobal>(
             Ok(room) => invoke_keep(rt, alloc, &room, kept, reading),
             Err(status) => status,
         },
+        Invocation::Meetings { organiser, reading } => {
+            match read_organiser(rt, alloc, organiser) {
+                Ok(organiser) => invoke_meetings(rt, alloc, &organiser, reading),
+                Err(status) => status,
+            }
+        }
         Invocation::Adapt { report, zones } => {
             run_behind(rt, alloc, zones, Work::Stream(StreamWork::Adapt { report }))
         }
@@ -170,8 +176,25 @@ pub(crate) fn read_room<R: Runtime + AllocGlobal>(
     }
 }
 
+/// The organiser that a word names; else the status of a usage fault.
+fn read_organiser<R: Runtime + AllocGlobal>(
+    rt: &R,
+    alloc: Global,
+    word: &str,
+) -> Result<Address, u8> {
+    match Address::read(alloc, word) {
+        Ok(organiser) => Ok(organiser),
+        Err(Fault::Memory) => Err(no_memory(rt)),
+        Err(Fault::Refused(_)) => Err(refuse_word(rt, alloc, BadWord::Organiser(word))),
+    }
+}
+
 /// The zone that words mean; else the status of a usage fault.
-fn read_zone<R: Runtime + AllocGlobal>(rt: &R, alloc: Global, words: &str) -> Result<RoomZone, u8> {
+pub(crate) fn read_zone<R: Runtime + AllocGlobal>(
+    rt: &R,
+    alloc: Global,
+    words: &str,
+) -> Result<RoomZone, u8> {
     match RoomZone::read(alloc, words) {
         Ok(zone) => Ok(zone),
         Err(Fault::Memory) => Err(no_memory(rt)),
@@ -220,6 +243,28 @@ fn invoke_keep<R: Runtime + AllocGlobal>(
     };
     let mut writer = DeviceWriter::new(io::writer(rt));
     run_keep(alloc, room, kept, &mut reader, &mut writer, &mut errors)
+}
+
+fn invoke_meetings<R: Runtime + AllocGlobal>(
+    rt: &R,
+    alloc: Global,
+    organiser: &Address,
+    reading: Reading<'_>,
+) -> u8 {
+    if let Reading::Adapted(zones) = reading {
+        return run_behind(
+            rt,
+            alloc,
+            zones,
+            Work::Stream(StreamWork::Meetings { organiser }),
+        );
+    }
+    let mut errors = DeviceWriter::new(ErrorPrinter { to: rt });
+    let Ok(mut reader) = DeviceReader::new(alloc, rt.reader()) else {
+        return no_memory(rt);
+    };
+    let mut writer = DeviceWriter::new(io::writer(rt));
+    run_meetings(alloc, organiser, &mut reader, &mut writer, &mut errors)
 }
 
 /// Hands on answers to the object of a file, which has to be one.

@@ -6,6 +6,7 @@ pub mod FolderLemmas
 pub mod HostLemmas
 pub mod InputLemmas
 pub mod Lines
+pub mod MeetingLemmas
 pub mod MessageLemmas
 pub mod NameLemmas
 pub mod NameOrder

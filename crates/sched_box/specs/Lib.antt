@@ -5,6 +5,7 @@ pub mod Boxes
 pub mod Config
 pub mod Faults
 pub mod FileNames
+pub mod Meetings
 pub mod Objects
 pub mod Organising
 pub mod Preamble

@@ -16,6 +16,7 @@ use ical_lines::{Fault, Refusal};
 use ical_values::{Address, Stamp};
 use itip_messages::Message;
 use itoa::Buffer;
+use organiser_books::Organiser;
 use room_books::Room;
 use std::alloc::{AllocError, Global};
 
@@ -35,6 +36,8 @@ impl Books {
     ghost use Rattle.profile.specs.streams.Streams.{Box, new_box};
     ghost use Rattle.sched_box.specs.Books.{AnswersKept, AreBooksOf, KeepAll, RefusesKept, TakesKept, hosted_rooms};
     ghost use Rattle.sched_box.specs.Config.{config_hosts, config_rooms};
+    ghost use Rattle.sched_box.specs.Organising.{organiser_addresses};
+    ghost use Rattle.organiser_books.specs.Representation.{address_of};
 
     /// Empty books for each room and each organiser, in the order of the configuration.
     pub(crate) fn new(alloc: Global, config: &Config) -> Result<Books, AllocError>
@@ -57,6 +60,15 @@ impl Books {
         ensures none { IsNone result → Contains (hosted_rooms self.now) (address_octets address.now) → ⊥ }
     {
         self.rooms.at(address)
+    }
+
+    /// The organiser of an address, if the box hosts it.
+    pub(crate) fn organiser_at(&self, address: &Address) -> Option<&Organiser>
+        ensures found { IfSome result (λ organiser. Contains self.now.organisers.organisers.items organiser.now) }
+        ensures address { IfSome result (λ organiser. address_of organiser.now ≡ address_octets address.now) }
+        ensures none { IsNone result → Contains (organiser_addresses self.now.organisers.organisers.items) (address_octets address.now) → ⊥ }
+    {
+        self.organisers.at(address)
     }
 
     /// Takes one object, its number in the stream from 1, and appends the answers to it; how many refusals it is: 0 or 1.

@@ -10,7 +10,7 @@ ghost use Rattle.profile.specs.streams.Streams.{addresses, room_in};
 ghost use Rattle.cal_zones.specs.RoomZones.{room_of, words_of};
 ghost use Rattle.sched_box.specs.Settings.{ReadsSettings, ReadsNone, zoned_room};
 
-use crate::settings::{Settings, ZonedRoom, refused, zone_among};
+use crate::settings::{Settings, ZonedRoom, contains, refused, zone_among};
 use cal_zones::RoomZone;
 use ical_lines::Fault;
 use ical_values::{Address, Stamp};
@@ -110,6 +110,13 @@ impl Config {
         ensures { IsTrue result ↔ Contains (config_rooms self.now) (address_octets room.now) }
     {
         self.zone(room).is_some()
+    }
+
+    /// Whether the box hosts an organiser of this address.
+    pub fn has_organiser(&self, organiser: &Address) -> bool
+        ensures { IsTrue result ↔ Contains (config_organisers self.now) (address_octets organiser.now) }
+    {
+        contains(self.organisers.as_slice(), organiser)
     }
 
     /// The zone of the room of this address, UTC where no line gives one; None where the box doesn't host it.

@@ -7,6 +7,7 @@ mod directory;
 mod fault;
 pub mod file_names;
 pub mod folders;
+pub mod meetings;
 pub mod objects;
 mod organisers;
 pub mod preamble;
@@ -19,6 +20,7 @@ pub use config::Config;
 pub use fault::{ServeFault, StreamFault};
 pub use file_names::MessageName;
 pub use folders::{BoxFault, BoxReport, run_box};
+pub use meetings::shown_meetings;
 pub use preamble::read_preamble;
 pub use sched_devices::{
     DeviceReader, DeviceWriter, DiskFolder, Folder, FolderFault, Input, Output, WriteFault,

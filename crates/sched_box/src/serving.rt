@@ -114,8 +114,8 @@ pub fn keep<R: Input>(
     Ok((texts.calendar, texts.certificate))
 }
 
-/// What a room gets that the box doesn't host: 90.
-fn not_hosted() -> StreamFault
+/// What a room or an organiser gets that the box doesn't host: 90.
+pub(crate) fn not_hosted() -> StreamFault
     ensures refuses { RefusesPreamble result }
     ensures cause { (reader writer : Bool) → StreamStopsFor reader writer result }
     ensures told { (reader : Bool) → StreamKeepsButRead reader reader result }

@@ -220,7 +220,7 @@ fn are_of_rooms(rooms: &[Address], zones: &[ZonedRoom]) -> bool
 }
 
 /// Whether one of the hosts has this address.
-fn contains(hosts: &[Address], address: &Address) -> bool
+pub(crate) fn contains(hosts: &[Address], address: &Address) -> bool
     ensures { IsTrue result ↔ Contains (map address_octets hosts.now) (address_octets address.now) }
 {
     has_address(hosts, address)

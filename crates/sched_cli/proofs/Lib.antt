@@ -11,4 +11,5 @@ pub mod Printing
 pub mod RefusedLemmas
 pub mod RunningLemmas
 pub mod Saying
+pub mod Showing
 pub mod Taken

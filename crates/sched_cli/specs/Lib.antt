@@ -6,6 +6,7 @@ pub mod Diagnosis
 pub mod Explained
 pub mod Expanding
 pub mod InTheWay
+pub mod Meetings
 pub mod Obstacles
 pub mod Places
 pub mod Reporting

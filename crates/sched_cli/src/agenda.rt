@@ -1,31 +1,35 @@
 //! `agenda`: what a room's calendar confirms in a span of time, by start and then by key; and when the room is free.
-ghost use Rattle.std.specs.Prelude.{◌≡◌, ◌⊎◌, ◌≤◌, ℕ, false, IfOk, IfErr};
+ghost use Rattle.std.specs.Prelude.{◌≡◌, ◌⊎◌, ◌≤◌, ℕ, false, option_map, IfOk, IfErr};
 ghost use Rattle.std.specs.Io.KnownBytes.{Keeps};
 ghost use Rattle.ical_lines.specs.Fault.{RefusesBy};
 ghost use Rattle.ical_values.specs.Octets.{address_octets};
 ghost use Rattle.profile.specs.checker.Calendars.{CalendarTextFault};
-ghost use Rattle.sched_cli.specs.Agendas.{IsAgendaText, IsFreeText, PrintsAgenda, PrintsFree, free_status};
+ghost use Rattle.cal_zones.specs.Kinds.{zone_of};
+ghost use Rattle.sched_cli.specs.Agendas.{IsAgendaText, IsFreeText, IsPublishedText, PrintsAgenda, PrintsFree, PrintsPublished, free_status};
 ghost use Rattle.sched_cli.specs.Commands.{BlamesDevice, IsStatusSaid, SaysLine, TellsDevice, refused_text};
 
 use crate::commands::write_out;
 use crate::status::{DONE, NO, report_read};
-use cal_agenda::{agenda, free_by, is_free, write_agenda, write_spans};
+use cal_agenda::{agenda, free_by, is_free, plain_address, publish, write_agenda, write_spans};
 use cal_events::{Calendar, Span};
+use cal_zones::Zone;
 use ical_lines::Fault;
-use ical_values::Address;
+use ical_values::{Address, Stamp};
 use sched_box::Output;
 use std::alloc::Global;
 
-/// `agenda`: prints what the calendar confirms for this room in a span, as lines `start end UID organiser`.
+/// `agenda`: prints what the calendar confirms for this room in a span, as lines `start end UID organiser`; behind start and
+/// end in UTC their local times where a zone is given.
 pub fn run_agenda<W: Output, E: Output>(
     alloc: Global,
     calendar: &[u8],
     room: &Address,
     span: Span,
+    zone: Option<Zone>,
     writer: &mut W,
     errors: &mut E,
 ) -> u8
-    ensures agenda { result ≡ 0 → PrintsAgenda (address_octets room.now) calendar.now span.start span.end (W.contents writer.old) (W.contents writer.new) }
+    ensures agenda { result ≡ 0 → PrintsAgenda (option_map zone_of zone) (address_octets room.now) calendar.now span.start span.end (W.contents writer.old) (W.contents writer.new) }
     ensures unwritten { (result ≡ 3) ⊎ (result ≡ 5) → Keeps (W.contents writer.old) (W.contents writer.new) }
     ensures refused { result ≡ 3 → (n : ℕ) × CalendarTextFault calendar.now n × SaysLine (refused_text n) (E.contents errors.old) (E.contents errors.new) (E.may_lose errors.new) }
     ensures said { IsStatusSaid result (E.contents errors.old) (E.contents errors.new) (E.may_lose errors.new) }
@@ -33,35 +37,42 @@ pub fn run_agenda<W: Output, E: Output>(
     ensures told { TellsDevice result false false (W.has_failed writer.old) (W.has_failed writer.new) }
     ensures status { (result ≡ 0) ⊎ (result ≡ 3) ⊎ (result ≡ 4) ⊎ (result ≡ 5) }
 {
-    match agenda_text(alloc, calendar, room, span) {
+    match agenda_text(alloc, calendar, room, span, zone) {
         Ok(text) => write_out(writer, errors, text.as_slice()),
         Err(fault) => report_read(errors, fault),
     }
 }
 
 /// The lines of what a calendar confirms for a room in a span.
-fn agenda_text(alloc: Global, calendar: &[u8], room: &Address, span: Span) -> Result<Vec<u8>, Fault>
-    ensures text { IfOk result (λ text. IsAgendaText (address_octets room.now) calendar.now span.start span.end text.items) }
+fn agenda_text(
+    alloc: Global,
+    calendar: &[u8],
+    room: &Address,
+    span: Span,
+    zone: Option<Zone>,
+) -> Result<Vec<u8>, Fault>
+    ensures text { IfOk result (λ text. IsAgendaText (option_map zone_of zone) (address_octets room.now) calendar.now span.start span.end text.items) }
     ensures fault { IfErr result (RefusesBy (CalendarTextFault calendar.now)) }
 {
     let calendar = Calendar::read(alloc, calendar, room)?;
     let instances = agenda(alloc, &calendar, span)?;
     let mut text = Vec::new(alloc);
-    write_agenda(alloc, &instances, &mut text)?;
+    write_agenda(alloc, &instances, zone, &mut text)?;
     Ok(text)
 }
 
-/// `free`: prints when this room is free in a span by its calendar, as lines `start end`. The status is 0 where it is free all the time, and 1 where
+/// `free`: prints when this room is free in a span by its calendar, as lines `start end`, with their local times where a zone is given. The status is 0 where it is free all the time, and 1 where
 /// it isn't.
 pub fn run_free<W: Output, E: Output>(
     alloc: Global,
     calendar: &[u8],
     room: &Address,
     span: Span,
+    zone: Option<Zone>,
     writer: &mut W,
     errors: &mut E,
 ) -> u8
-    ensures free { result ≤ 1 → PrintsFree result (address_octets room.now) calendar.now span.start span.end (W.contents writer.old) (W.contents writer.new) }
+    ensures free { result ≤ 1 → PrintsFree (option_map zone_of zone) result (address_octets room.now) calendar.now span.start span.end (W.contents writer.old) (W.contents writer.new) }
     ensures unwritten { (result ≡ 3) ⊎ (result ≡ 5) → Keeps (W.contents writer.old) (W.contents writer.new) }
     ensures refused { result ≡ 3 → (n : ℕ) × CalendarTextFault calendar.now n × SaysLine (refused_text n) (E.contents errors.old) (E.contents errors.new) (E.may_lose errors.new) }
     ensures said { IsStatusSaid result (E.contents errors.old) (E.contents errors.new) (E.may_lose errors.new) }
@@ -69,7 +80,7 @@ pub fn run_free<W: Output, E: Output>(
     ensures told { TellsDevice result false false (W.has_failed writer.old) (W.has_failed writer.new) }
     ensures status { (result ≤ 1) ⊎ (result ≡ 3) ⊎ (result ≡ 4) ⊎ (result ≡ 5) }
 {
-    match free_text(alloc, calendar, room, span) {
+    match free_text(alloc, calendar, room, span, zone) {
         Ok((text, is_free)) => {
             let written = write_out(writer, errors, text.as_slice());
             with_answer(written, is_free)
@@ -95,14 +106,61 @@ fn free_text(
     calendar: &[u8],
     room: &Address,
     span: Span,
+    zone: Option<Zone>,
 ) -> Result<(Vec<u8>, bool), Fault>
-    ensures text { IfOk result (λ free. IsFreeText (address_octets room.now) calendar.now span.start span.end free.1 free.0.items) }
+    ensures text { IfOk result (λ free. IsFreeText (option_map zone_of zone) (address_octets room.now) calendar.now span.start span.end free.1 free.0.items) }
     ensures fault { IfErr result (RefusesBy (CalendarTextFault calendar.now)) }
 {
     let calendar = Calendar::read(alloc, calendar, room)?;
     let instances = agenda(alloc, &calendar, span)?;
     let spans = free_by(alloc, &instances, span)?;
     let mut text = Vec::new(alloc);
-    write_spans(&spans, &mut text)?;
+    write_spans(alloc, &spans, zone, &mut text)?;
     Ok((text, is_free(&instances)))
+}
+
+/// `agenda --ics`: prints an iCalendar object for subscribing, with a VEVENT for each instance that the calendar confirms for this room from a
+/// moment on and before an instant.
+pub fn run_published<W: Output, E: Output>(
+    alloc: Global,
+    calendar: &[u8],
+    room: &Address,
+    from: Stamp,
+    until: i64,
+    writer: &mut W,
+    errors: &mut E,
+) -> u8
+    ensures published { result ≡ 0 → PrintsPublished (address_octets room.now) calendar.now from until (W.contents writer.old) (W.contents writer.new) }
+    ensures unwritten { (result ≡ 3) ⊎ (result ≡ 5) → Keeps (W.contents writer.old) (W.contents writer.new) }
+    ensures refused { result ≡ 3 → (n : ℕ) × CalendarTextFault calendar.now n × SaysLine (refused_text n) (E.contents errors.old) (E.contents errors.new) (E.may_lose errors.new) }
+    ensures said { IsStatusSaid result (E.contents errors.old) (E.contents errors.new) (E.may_lose errors.new) }
+    ensures device { BlamesDevice false (W.has_failed writer.new) result }
+    ensures told { TellsDevice result false false (W.has_failed writer.old) (W.has_failed writer.new) }
+    ensures status { (result ≡ 0) ⊎ (result ≡ 3) ⊎ (result ≡ 4) ⊎ (result ≡ 5) }
+{
+    match published_text(alloc, calendar, room, from, until) {
+        Ok(text) => write_out(writer, errors, text.as_slice()),
+        Err(fault) => report_read(errors, fault),
+    }
+}
+
+/// The object of what a calendar confirms for a room from a moment on and before an instant.
+fn published_text(
+    alloc: Global,
+    calendar: &[u8],
+    room: &Address,
+    from: Stamp,
+    until: i64,
+) -> Result<Vec<u8>, Fault>
+    ensures text { IfOk result (λ text. IsPublishedText (address_octets room.now) calendar.now from until text.items) }
+    ensures fault { IfErr result (RefusesBy (CalendarTextFault calendar.now)) }
+{
+    let calendar = Calendar::read(alloc, calendar, room)?;
+    let span = Span {
+        start: from.instant(),
+        end: until,
+    };
+    let instances = agenda(alloc, &calendar, span)?;
+    let text = publish(alloc, plain_address(room.as_str()), from, &instances)?;
+    Ok(text)
 }

@@ -1,5 +1,5 @@
 -- The numbers of refusals, by what they are about. A number's meaning is given at its constant in
--- `ical_lines/src/fault.rt` and in docs/PROFILE.md.
+-- `ical_lines/src/fault.rt` and in docs/REFERENCE.md.
 use Rattle.std.specs.Prelude.{ℕ, Bool, nat_le, ◌&&◌, ◌||◌, ◌==◌}
 
 -- n is one of low..high

@@ -1,7 +1,6 @@
 -- Zones in general: a VTIMEZONE with any number of observances, which begin by DTSTART, by RDATE and by yearly rules that may end
 -- (RFC 5545 3.6.5). The offset in force and what a local time means are those of Zones.antt, which are said there of any onsets.
-use Rattle.std.specs.Prelude.{◌≡◌, ℕ, ◌+◌, ◌-◌, ◌≤◌, ◌⊎◌, Contains, List, [], ◌∷◌, ℤ, pos, ◌+ℤ◌, ◌≤ℤ◌}
-use Rattle.std.specs.Int.Signed.{◌<ℤ◌}
+use Rattle.std.specs.Prelude.{ℕ, ◌+◌, ◌-◌, ◌≤◌, Contains, List, [], ◌∷◌, ℤ, pos, ◌+ℤ◌, ◌≤ℤ◌}
 use Rattle.profile.specs.series.Rules.{count_days}
 use Rattle.profile.specs.series.Zones.{Observance, Zone, Constant, Single, Pair, Onset, IsOnset, begins_on, InForce, IsOffsetAt, Means, MeansBy}
 

@@ -5,7 +5,7 @@ use Rattle.profile.specs.events.Messages.{Message, SpellsMessage, is_to_rooms}
 use Rattle.profile.specs.rooms.Messages.{Outcome}
 use Rattle.profile.specs.rooms.Rooms as rooms
 use Rattle.profile.specs.rooms.Rooms.{Claim, Kind, IsStep, kind_of}
-use Rattle.profile.specs.streams.Streams.{AreClaims, Box, Hosted, IsRefusedWith, Steps, refused_line}
+use Rattle.profile.specs.streams.Streams.{Answers, AreClaims, Box, Hosted, IsRefusedWith}
 
 -- ---- what became of an object
 
@@ -76,13 +76,6 @@ Becomes false moment message before after fate = fate ≡ Taken
 
 -- ---- the objects of a stream
 
--- the octets answer object k (as `Answers` says), and this became of it
-abbrev pub AnswersAs : ℤ → ℕ → List ℕ → Box → Box → List ℕ → Fate → Type 0
-AnswersAs moment k object before after octets fate =
-    ((said : Message) × SpellsMessage object said × Steps moment said before after octets
-    × Becomes (is_to_rooms said.method) moment said before after fate)
-    ⊎ ((n : ℕ) × IsRefusedWith before n object × (after ≡ before) × (octets ≡ refused_line k n) × (fate ≡ Refused n))
-
 -- how many refusals that is
 abbrev pub refusals : Fate → ℕ
 refusals (Refused n) = 1
@@ -90,6 +83,17 @@ refusals Unreached = 0
 refusals Stale = 0
 refusals Repeated = 0
 refusals Taken = 0
+
+-- this became of an object that is taken, or refused
+abbrev pub BecomesOf : ℤ → List ℕ → Box → Box → Fate → Type 0
+BecomesOf moment object before after fate =
+    ((said : Message) × SpellsMessage object said × Becomes (is_to_rooms said.method) moment said before after fate)
+    ⊎ ((n : ℕ) × IsRefusedWith before n object × (fate ≡ Refused n))
+
+-- the octets answer object k, and this became of it
+abbrev pub AnswersAs : ℤ → ℕ → List ℕ → Box → Box → List ℕ → Fate → Type 0
+AnswersAs moment k object before after octets fate =
+    Answers moment k object before after octets (refusals fate) × BecomesOf moment object before after fate
 
 -- step by step the answers to objects from number k on, and what became of each of them (as `AllAnswers` says)
 abbrev pub AllAnswersAs : ℤ → ℕ → List (List ℕ) → Box → Box → List ℕ → List Fate → Type 0
@@ -100,7 +104,9 @@ AllAnswersAs moment k (object ∷ objects) before after octets fates =
 
 -- ---- who is told of it
 
--- from one value to the next, each of these was told, by its number from k on, by one step
-abbrev pub AllTold : {Told : Type 0} → (Told → ℕ → Fate → Told → Type 0) → Told → ℕ → List Fate → Told → Type 0
-AllTold Tells old k [] new = new ≡ old
-AllTold {Told} Tells old k (fate ∷ fates) new = (mid : Told) × Tells old k fate mid × AllTold Tells mid (k + 1) fates new
+-- from one value to the next, each of these objects was told with what became of it, by its number from k on, by one step
+abbrev pub AllTold : {Told : Type 0} → (Told → ℕ → List ℕ → Fate → Told → Type 0) → Told → ℕ → List (List ℕ) → List Fate → Told → Type 0
+AllTold Tells old k [] [] new = new ≡ old
+AllTold {Told} Tells old k (object ∷ objects) (fate ∷ fates) new =
+    (mid : Told) × Tells old k object fate mid × AllTold Tells mid (k + 1) objects fates new
+AllTold Tells old k _ _ new = ⊥

@@ -5,7 +5,7 @@ use Rattle.std.proofs.lemmas.Int.{ints}
 use Rattle.std.proofs.lemmas.List.{take_more, take_all, get_or_default}
 use Rattle.profile.specs.events.Confirmed.{Confirmed}
 use Rattle.cal_events.specs.declared.sweep.Span.{Span}
-use Rattle.clash_check.specs.Draws.{IsPlaceOfSeries, IsSpanBetween}
+use Rattle.clash_check.specs.Draws.{IsPlaceIn, IsSpanBetween}
 use Rattle.clash_check.specs.Walks.{MeetsLast, SharesWithNone, IsLaterEnd}
 use Rattle.clash_check.proofs.GroupSweepLemmas.{begun_none, begun_more, group_first, group_found, group_some, group_fewer, group_past, group_clear, group_all, popped_member, none_left, taken_less}
 use Rattle.clash_check.proofs.group_sweep.sweep_group.Goals as goal
@@ -17,7 +17,7 @@ loop-number-init g c = λ bound same.
 pub begin-requires : goal.begin-requires
 begin-requires g c =
     let b = c.loop-number.invariant _ refl in
-    subst (λ (all : Confirmed). IsPlaceOfSeries (length all.series) (get_or c.args.members.now c.loop-number.number-index 0)) (sym b.same)
+    subst (λ (all : Confirmed). IsPlaceIn (length all.series) (get_or c.args.members.now c.loop-number.number-index 0)) (sym b.same)
     (c.requires.places (get_or c.args.members.now c.loop-number.number-index 0) (c.loop-number.number-index, c.loop-number-test.true, get_or_default c.args.members.now c.loop-number.number-index _ 0 c.loop-number-test.true))
 
 pub loop-number-preserved : goal.loop-number-preserved
@@ -36,7 +36,7 @@ loop-number-preserved g c = λ bound same.
 pub push_next-requires : goal.push_next-requires
 push_next-requires g c =
     let b = c.loop-number.invariant _ refl in
-    subst (λ (all : Confirmed). IsPlaceOfSeries (length all.series) (get_or c.args.members.now c.loop-number.number-index 0)) (sym (c.begin.ensures.calendar ∙ b.same))
+    subst (λ (all : Confirmed). IsPlaceIn (length all.series) (get_or c.args.members.now c.loop-number.number-index 0)) (sym (c.begin.ensures.calendar ∙ b.same))
     (c.requires.places (get_or c.args.members.now c.loop-number.number-index 0) (c.loop-number.number-index, c.loop-number-test.true, get_or_default c.args.members.now c.loop-number.number-index _ 0 c.loop-number-test.true))
 
 pub returns-in_err-push_next-clause-calendar : goal.returns-in_err-push_next-clause-calendar
@@ -66,7 +66,7 @@ returns-then-meets-clause-count g c =
 pub push_next-requires-in-Some : goal.push_next-requires-in-Some
 push_next-requires-in-Some g c =
     let at = c.loop-next.invariant _ refl in
-    subst (λ (all : Confirmed). IsPlaceOfSeries (length all.series) c.in-Some.field-0.0.series) (sym at.same)
+    subst (λ (all : Confirmed). IsPlaceIn (length all.series) c.in-Some.field-0.0.series) (sym at.same)
     (c.requires.places c.in-Some.field-0.0.series (popped_member (g.D.Drawn.calendar c.args.drawn.now) c.is_drawable.ensures c.args.members.now c.requires.places _ _ _ _ _ _ _ at c.in-Some.field-0 _ c.in-Some.ensures.permutation))
 
 pub loop-next-smaller : goal.loop-next-smaller

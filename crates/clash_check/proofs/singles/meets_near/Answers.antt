@@ -2,7 +2,7 @@ use Rattle.std.proofs.Common.{◌∙◌, ℤ, ◌<ℤ◌, length, sym, subst, ru
 use Rattle.std.specs.Prelude.{◌↔◌, Some, None}
 use Rattle.std.proofs.lemmas.Bool.{true≢false}
 use Rattle.profile.specs.events.Confirmed.{Confirmed}
-use Rattle.clash_check.specs.Draws.{IsSpanBetween, IsPlaceOfSeries}
+use Rattle.clash_check.specs.Draws.{IsSpanBetween, IsPlaceIn}
 use Rattle.clash_check.specs.Singles.{IsEntryInstant}
 use Rattle.clash_check.proofs.SweepLemmas.{known_at}
 use Rattle.clash_check.proofs.SingleLemmas.{near_first, near_met, near_few, near_next, near_none, near_all, near_fewer, near_within, near_at, lasts_at}
@@ -53,7 +53,7 @@ returns-then-is_going_on-clause-count g c = λ a there.
     (lasts_at (g.D.Drawn.calendar c.args.drawn.now) c.is_drawable.ensures c.args.i a width there (of a there)) some enters _ _ _ c.in-Some.instance near
 
 pub draw_span-next-requires-in-Some : goal.draw_span-next-requires-in-Some
-draw_span-next-requires-in-Some g c = subst (λ (x : Confirmed). IsPlaceOfSeries (length x.series) c.args.i) (sym c.loop-next.invariant.5.same) c.requires.place
+draw_span-next-requires-in-Some g c = subst (λ (x : Confirmed). IsPlaceIn (length x.series) c.args.i) (sym c.loop-next.invariant.5.same) c.requires.place
 
 pub loop-next-smaller : goal.loop-next-smaller
 loop-next-smaller g c =

@@ -12,6 +12,7 @@ use Rattle.organiser_books.specs.declared.meeting.StoredMeeting.{StoredMeeting}
 use Rattle.organiser_books.specs.Calls.{sent_of}
 use Rattle.organiser_books.specs.Representation.{same_text}
 use Rattle.organiser_books.specs.Storing.{sequence_then}
+use Rattle.organiser_books.proofs.Showing.{stored_texts}
 use Rattle.organiser_books.proofs.Storing.{is_stored, spent_fault}
 use Rattle.organiser_books.proofs.organiser.Organiser.store.Goals as goal
 
@@ -34,4 +35,4 @@ returns-clause-steps c = λ said is book keeps.
     let r = is_stored (address_octets c.args.self.now.address) object said is kind own book meetings keeps.each c.args.now meeting (c.in-Some.ensures.is ∙ same) refl (map sent_of made.sent.items)
     (get same_text c.insert.new.self) (λ q. c.in_ok-insert.ensures.updates.0 q ∙ ap (λ (u : List ℕ). cond (bytes_eq u (text_octets q)) (Some meeting) (meetings q)) (c.in_ok-uid.ensures.cases ∙ ap text_octets c.uid-2.ensures))
     c.in-Some.ensures.fits (c.in_ok-components.ensures said.events (subst (λ (l : List MessageComponent). AllZip SaysComponent said.events l) (sym c.components-2.ensures) is.each)) c.in_ok-attending.ensures.attending c.new.ensures.empty c.in_ok-attending.ensures.sends c.in_ok-attending.ensures.told in
-    (r.0, (r.1.0, r.1.1, record { each = r.1.2 }))
+    (r.0, (r.1.0, r.1.1, record { texts = stored_texts c.args.now said book _ _ r.1.1 object.uid is.uid keeps.texts; each = r.1.2 }))

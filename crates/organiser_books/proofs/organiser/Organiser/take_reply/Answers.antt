@@ -45,6 +45,7 @@ returns-in_err-take_reply-clause-err c =
     let w = c.get_mut.follows.holds n in
     let after : Organiser = record { alloc = c.args.self.now.alloc; address = c.args.self.now.address; meetings = c.get_mut.follows.lender n } in
     let kept : (book : OrganiserBook) → Keeps c.args.self.now book → Keeps after book = λ book keeps. record {
+      texts = keeps.texts;
       each = keeps_same book uid (get same_text c.args.self.now.meetings) (get same_text (c.get_mut.follows.lender n)) m n (c.in-Some.ensures.value ∙ ap (get same_text c.args.self.now.meetings) c.uid.ensures)
           (λ q. (w.3 (sym (ap is_some c.in-Some.ensures.value))).0 q ∙ ap (λ (u : Text). cond (same_text u q) (Some n) (get same_text c.args.self.now.meetings q)) c.uid.ensures)
           c.take_reply.ensures.revision c.take_reply.ensures.components c.take_reply.ensures.attending c.take_reply.ensures.object c.in_err-take_reply.ensures.err keeps.each;
@@ -62,4 +63,4 @@ returns-clause-steps c = λ said is book keeps.
     c.take_reply.ensures.revision c.take_reply.ensures.components c.take_reply.ensures.attending c.take_reply.ensures.object
     (ap (is_ahead m) (sym c.components.ensures) ∙ c.in_ok-take_reply.ensures.sent) (ap (is_strange m) (sym c.components.ensures) ∙ c.in_ok-take_reply.ensures.known)
     (λ s replies rev seen. subst (λ (l : List MessageComponent). AreSeen n s (replies ++ flat_map (heard_said s.uid) l)) c.components.ensures (c.in_ok-take_reply.ensures.seen s replies rev seen)) in
-    (r.0, record { each = r.1 })
+    (r.0, record { texts = keeps.texts; each = r.1 })
