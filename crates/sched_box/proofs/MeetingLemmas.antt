@@ -1,7 +1,6 @@
 -- The organisers of a box stay, whatever it answers, and what one shows is of its book.
-use Rattle.std.proofs.Common.{◌≡◌, ◌⊎◌, inl, inr, ℕ, ℤ, Bool, true, false, List, [], ◌∷◌, ◌++◌, map, Option, Result, Ok, Contains, refl, sym, ap, subst, ◌∙◌}
+use Rattle.std.proofs.Common.{◌≡◌, inl, inr, ℕ, ℤ, Bool, true, false, List, [], ◌∷◌, ◌+◌, map, Ok, Contains, refl, sym, ap, subst, ◌∙◌}
 use Rattle.std.proofs.lemmas.List.{map-append}
-use Rattle.std.proofs.lemmas.Simd.{map-map}
 use Rattle.cal_events.proofs.shared_lemmas.SeriesLemmas.{zip_with}
 use Rattle.profile.specs.events.Messages.{Message, is_to_rooms}
 use Rattle.profile.specs.organisers.Organisers.{OrganiserBook, ShowsMeetings}
@@ -10,7 +9,6 @@ use Rattle.organiser_books.specs.Representation.{Keeps, address_of}
 use Rattle.organiser_books.specs.declared.organiser.Organiser.{Organiser}
 use Rattle.sched_box.specs.declared.books.Books.{Books}
 use Rattle.sched_box.specs.declared.serving.ServeReport.{ServeReport}
-use Rattle.sched_box.specs.Books.{AreBooksOf}
 use Rattle.sched_box.specs.Meetings.{KeepsMeetings}
 use Rattle.sched_box.specs.Organising.{AreKeptBy, IsKeptBy, organiser_addresses}
 use Rattle.sched_box.specs.Serving.{BooksServe, Ends}
@@ -34,13 +32,13 @@ step_stays false moment said before after octets step = taken_stay moment said b
 answer_stays : (moment : ℤ) (k : ℕ) (object : List ℕ) (before after : Box) (octets : List ℕ) (refused : ℕ) → Answers moment k object before after octets refused
     → addresses_in after.organisers ≡ addresses_in before.organisers
 answer_stays moment k object before after octets refused (inl (said, spells, step, none)) = step_stays (is_to_rooms said.method) moment said before after octets step
-answer_stays moment k object before after octets refused (inr (n, fault, same, others)) = ap (λ (b : Box). addresses_in b.organisers) same
+answer_stays moment k object before after octets refused (inr (n, fault, same, line, one)) = ap (λ (b : Box). addresses_in b.organisers) same
 
 organisers_stay : (moment : ℤ) (k : ℕ) (objects : List (List ℕ)) (before after : Box) (octets : List ℕ) (refused : ℕ) → AllAnswers moment k objects before after octets refused
     → addresses_in after.organisers ≡ addresses_in before.organisers
-organisers_stay moment k [] before after octets refused (same, others) = ap (λ (b : Box). addresses_in b.organisers) same
+organisers_stay moment k [] before after octets refused (same, none, zero) = ap (λ (b : Box). addresses_in b.organisers) same
 organisers_stay moment k (object ∷ objects) before after octets refused (mid, first, rest, one, more, is, sum, answer, answers) =
-    organisers_stay moment _ objects mid after rest more answers ∙ answer_stays moment k object before mid first one answer
+    organisers_stay moment (k + 1) objects mid after rest more answers ∙ answer_stays moment k object before mid first one answer
 
 kept_addresses : (organisers : List Organiser) (hosted : List HostedOrganiser) → AreKeptBy organisers hosted → organiser_addresses organisers ≡ addresses_in hosted
 kept_addresses [] [] are = refl
