@@ -3,6 +3,7 @@
 //! `stdout`, whose lines come from the RFCs, by hand or from another program.
 #![tactic(auto)]
 
+mod again;
 mod calendar_files;
 mod calendars;
 mod certificates;
