@@ -53,7 +53,8 @@ def proved(crate, below, jobs):
         folder = copied(crate, below, room)
         words = [RT, "lib", "--jobs", str(jobs)]
         status = subprocess.run(words, cwd=folder, stdin=subprocess.DEVNULL, stdout=log, stderr=subprocess.STDOUT).returncode
-        if not status:
+        # also of a crate that isn't proved: the next run begins with what is
+        if (folder / "out").is_dir():
             shutil.rmtree(ROOT / "crates" / crate / "out", ignore_errors=True)
             shutil.move(folder / "out", ROOT / "crates" / crate / "out")
     return status
