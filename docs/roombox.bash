@@ -1,10 +1,10 @@
 # Completion of roombox in bash: `source docs/roombox.bash`. Made by bench/man_page.py from the help of roombox.
 
 _roombox() {
-    local word=${COMP_WORDS[COMP_CWORD]} options="serve keep adapt agenda check expand explain box --adapt --zones --help --version" at
+    local word=${COMP_WORDS[COMP_CWORD]} options="serve keep meetings adapt agenda check expand explain box --adapt --zones --help --version" at
     for ((at = 1; at < COMP_CWORD; at++)); do
         case ${COMP_WORDS[at]} in
-        serve | keep | adapt | agenda | check | expand | explain | box) break ;;
+        serve | keep | meetings | adapt | agenda | check | expand | explain | box) break ;;
         esac
     done
     COMPREPLY=()
@@ -15,8 +15,9 @@ _roombox() {
     case ${COMP_WORDS[at]} in
     serve) options="--report --adapt --zones --help" ;;
     keep) options="--certificate --adapt --zones --help" ;;
+    meetings) options="--adapt --zones --help" ;;
     adapt) options="--zones --report --reply-to --single --help" ;;
-    agenda) options="--from --until --free --help" ;;
+    agenda) options="--from --until --zone --free --ics --help" ;;
     check) options="--help" ;;
     expand) options="--limit --zone --help" ;;
     explain) options="--help" ;;

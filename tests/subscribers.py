@@ -124,11 +124,12 @@ def shown_by_khal(text):
         if "BEGIN:VEVENT" in text:
             subprocess.run(["khal", "-c", f"{folder}/config", "import", "--batch", "-a", "room", path], env=environment, capture_output=True, check=True, timeout=300)
         form = "{start-date-long} {start-time} {end-date-long} {end-time}"
-        ended = subprocess.run(["khal", "-c", f"{folder}/config", "list", "--notstarted", "--once", "--format", form, "--day-format", "", "2025-01-01", "2026-01-01"], env=environment,
+        ended = subprocess.run(["khal", "-c", f"{folder}/config", "list", "--notstarted", "--format", form, "--day-format", "", "2025-01-01", "2026-01-01"], env=environment,
                                capture_output=True, timeout=300)
     read = lambda day, time: (datetime.strptime(f"{day} {time}", "%Y-%m-%d %H:%M:%S") - EPOCH) // timedelta(seconds=1)
     words = [line.split() for line in ended.stdout.decode().splitlines() if re.match(r"\d{4}-", line)]
-    return sorted((read(*it[:2]), read(*it[2:4])) for it in words if it[0].startswith("2025"))
+    # what lasts over midnight is listed on each of its days
+    return sorted({(read(*it[:2]), read(*it[2:4])) for it in words if it[0].startswith("2025")})
 
 
 def shown_by_icalendar(text):
