@@ -381,6 +381,14 @@ def keep_case(spoiler):
     return Case(["keep", room], text)
 
 
+def meetings_case(spoiler):
+    """Of an organiser of the preamble, or of one who may not be there."""
+    text = stream_of(spoiler)
+    found = re.findall(rb"^organiser ([!-~]+)\r?$", text.split(b"\n\n")[0], re.MULTILINE)
+    organiser = spoiler.chance.choice(found).decode() if found and spoiler.chance.random() < 0.9 else "mailto:ann@example.com"
+    return Case(["meetings", organiser], text)
+
+
 def check_case(spoiler):
     both = spoiler.chance.choice((1, None))
     files = {"calendar": spoiler.spoiled("calendar", both), "certificate": spoiler.spoiled("certificate", spoiler.chance.choice((0, 0, 1, 3)))}
@@ -446,6 +454,7 @@ def words_case(spoiler):
 
 
 CASES = {"serve": serve_case, "keep": keep_case, "check": check_case, "expand": expand_case, "explain": explain_case, "box": box_case, "adapt": adapt_case, "back": back_case, "agenda": agenda_case,
+         "meetings": meetings_case,
          WORDS_OF_ALL: words_case}
 
 
@@ -457,7 +466,7 @@ class Ended:
 
     def kind(self, command):
         """What sets this answer apart from others: its numbers and words, but not their values."""
-        shape = re.sub(rb"\d{3,}|mailto:\S+", b"#", self.output[: 400 if command in ("keep", "expand") else 4_000])
+        shape = re.sub(rb"\d{3,}|mailto:\S+", b"#", self.output[: 400 if command in ("keep", "meetings", "expand") else 4_000])
         return command, self.status, re.sub(rb"\d{3,}|'.*'", b"#", self.said[:200]), shape
 
 
@@ -603,7 +612,7 @@ class Fuzz:
         if kind in self.kinds or command == WORDS_OF_ALL:
             return
         self.kinds.add(kind)
-        texts = {"stream" if command in ("serve", "keep") else "object": case.stdin, **case.files}
+        texts = {"stream" if command in ("serve", "keep", "meetings") else "object": case.stdin, **case.files}
         for name, text in texts.items():
             name = "object" if name.startswith("inbox/") else name
             kept = self.corpus.kinds.get(name)
