@@ -71,7 +71,8 @@ def sweep(program, crate, line, shim):
         for number in range(1, 100_000):
             ended = run(program, folder, shim, number)
             found = ended.stdout.decode()
-            if ended.returncode < 0 or found not in ("", whole, more, f"{name}: out of memory\n"):
+            # where a file of the case is read, no memory is an io::Error, as is a file that isn't there
+            if ended.returncode < 0 or found not in ("", whole, more, f"{name}: out of memory\n", f"{name}: unreadable case\n"):
                 sys.exit(f"{name}: allocation {number} refused: {ended}")
             if found == whole:
                 quiet += 1
