@@ -1,7 +1,11 @@
+pub mod BlockLemmas
+pub mod DayLemmas
 pub mod GapLemmas
 pub mod Gathering
+pub mod HtmlLemmas
 pub mod LineLemmas
 pub mod LocalLemmas
 pub mod Order
+pub mod PageLemmas
 pub mod PublishLemmas
 pub mod SeriesWalk

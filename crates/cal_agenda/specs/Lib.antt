@@ -1,4 +1,9 @@
+pub mod Blocks
 pub mod Gaps
+pub mod Html
 pub mod InSpan
+pub mod PageDays
+pub mod PageStyle
+pub mod Pages
 pub mod Printing
 pub mod Published

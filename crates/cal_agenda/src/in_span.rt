@@ -31,7 +31,7 @@ fn is_in_span(instance: &Instance<'_>, span: Span) -> bool
 }
 
 /// Whether there is an instant in a span.
-fn has_instant(span: Span) -> bool
+pub(crate) fn has_instant(span: Span) -> bool
     ensures { IsTrue result ↔ (span.start <ℤ span.end) }
 {
     span.start < span.end
