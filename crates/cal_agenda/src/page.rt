@@ -23,8 +23,31 @@ use std::alloc::{AllocError, Global};
 
 /// The style of a page.
 const STYLE: &str = "\
-:root { color-scheme: light dark; }
-body { margin: 0; }
+:root { color-scheme: light dark; --page: #f6f5f1; --ink: #1d2127; --soft: #565d68; --taken: #6b2737; --rim: #6b2737; --on-taken: #ffffff; --free: #ffffff; --on-free: #14532d; --edge: #2f7d4f; }
+@media (prefers-color-scheme: dark) { :root { --page: #14171b; --ink: #eceef1; --soft: #a9b1bc; --taken: #5c2b37; --rim: #b5707f; --on-taken: #fff1f3; --free: #14171b; --on-free: #a5e2bb; --edge: #5fae80; } }
+* { box-sizing: border-box; }
+html { font: clamp(100%, 1.25vw, 200%)/1.3 system-ui, -apple-system, 'Segoe UI', Roboto, 'Noto Sans', 'DejaVu Sans', sans-serif; }
+body { margin: 0; padding: 1.25rem; background: var(--page); color: var(--ink); }
+header { display: flex; flex-wrap: wrap; justify-content: space-between; align-items: baseline; gap: 0 1.5rem; }
+h1 { margin: 0; font-size: 2.25rem; line-height: 1.15; overflow-wrap: anywhere; }
+header p { margin: 0; color: var(--soft); }
+main { display: grid; grid-template-columns: repeat(auto-fill, minmax(min(100%, 11.5rem), 1fr)); gap: 1.25rem 0.75rem; margin-top: 1rem; }
+h2 { margin: 0 0 0.5rem; font-size: 1.25rem; line-height: 1.15; }
+h2 time { display: block; font-size: 0.9375rem; font-weight: 400; color: var(--soft); }
+ol { display: grid; gap: 0.5rem; margin: 0; padding: 0; list-style: none; }
+li { padding: 0.375rem 0.625rem; border: 0.1875rem solid var(--rim); border-radius: 0.5rem; overflow-wrap: anywhere; }
+.taken { background: var(--taken); color: var(--on-taken); }
+.free { background: var(--free); color: var(--on-free); border: 0.1875rem dashed var(--edge); }
+.when { display: block; font-size: 1.375rem; font-weight: 700; font-variant-numeric: tabular-nums; }
+b { letter-spacing: 0.04em; text-transform: uppercase; }
+.who { display: block; font-size: 0.9375rem; }
+section:first-child { grid-column: 1 / -1; }
+section:first-child h2 { font-size: 2rem; }
+section:first-child h2 time { display: inline; font-size: 1.25rem; }
+section:first-child ol { grid-template-columns: repeat(auto-fill, minmax(min(100%, 19.5rem), 1fr)); }
+section:first-child .when { font-size: 2.75rem; line-height: 1.1; }
+section:first-child b { font-size: 1.75rem; }
+section:first-child .who { font-size: 1.375rem; }
 ";
 
 /// The page of a room, by its name, with what its calendar confirms on each day that a span touches: its times, who booked it, and when the room is
