@@ -2,11 +2,12 @@
 
 use crate::command_line::BadWord;
 use crate::host::{ErrorPrinter, read_file, read_room, read_zone, refuse_word, report_file};
+use cal_agenda::PageSpan;
 use cal_events::Span;
 use cal_zones::Zone;
 use ical_values::{Address, Stamp};
 use sched_box::{DeviceWriter, Output};
-use sched_cli::{run_agenda, run_free, run_published};
+use sched_cli::{run_agenda, run_free, run_page, run_published};
 use std::alloc::Global;
 use std::io;
 use std::rt::Runtime;
@@ -34,15 +35,24 @@ pub enum Form {
     Free,
     /// An iCalendar object.
     Object,
+    /// A page of HTML.
+    Page,
 }
 
 /// What is asked, once its words are read.
+#[derive(Clone, Copy)]
+enum Question {
+    Lines(Span),
+    Free(Span),
+    Object { from: Stamp, until: i64 },
+    Page(PageSpan),
+}
+
+/// A question about a room, by the clocks of a zone where one is given.
 struct Asked<'a> {
     room: &'a Address,
-    from: Stamp,
-    until: i64,
     zone: Option<Zone>,
-    form: Form,
+    question: Question,
 }
 
 /// Prints what the calendar of a file confirms for a room in a span, or when the room is free there.
@@ -55,8 +65,8 @@ pub(crate) fn invoke_agenda<R: Runtime + AllocGlobal>(
         Ok(room) => room,
         Err(status) => return status,
     };
-    let (from, until) = match span_of(agenda) {
-        Ok(span) => span,
+    let question = match question_of(agenda) {
+        Ok(question) => question,
         Err(word) => return refuse_word(rt, alloc, word),
     };
     let zone = match zone_of(rt, alloc, agenda.zone) {
@@ -70,10 +80,8 @@ pub(crate) fn invoke_agenda<R: Runtime + AllocGlobal>(
     };
     let asked = Asked {
         room: &room,
-        from,
-        until,
         zone,
-        form: agenda.form,
+        question,
     };
     let mut writer = DeviceWriter::new(io::writer(rt));
     let status = answer(alloc, calendar.as_slice(), asked, &mut writer, &mut errors);
@@ -97,19 +105,37 @@ fn answer<W: Output, E: Output>(
 ) -> u8 {
     let Asked {
         room,
-        from,
-        until,
         zone,
-        form,
+        question,
     } = asked;
+    match question {
+        Question::Lines(span) => run_agenda(alloc, calendar, room, span, zone, writer, errors),
+        Question::Free(span) => run_free(alloc, calendar, room, span, zone, writer, errors),
+        Question::Object { from, until } => {
+            run_published(alloc, calendar, room, from, until, writer, errors)
+        }
+        Question::Page(span) => run_page(alloc, calendar, room, span, zone, writer, errors),
+    }
+}
+
+/// What the words ask; else the word that is wrong.
+fn question_of<'a>(agenda: Agenda<'a>) -> Result<Question, BadWord<'a>> {
+    let (from, until) = match span_of(agenda) {
+        Ok(span) => span,
+        Err(word) => return Err(word),
+    };
     let span = Span {
         start: from.instant(),
         end: until,
     };
-    match form {
-        Form::Lines => run_agenda(alloc, calendar, room, span, zone, writer, errors),
-        Form::Free => run_free(alloc, calendar, room, span, zone, writer, errors),
-        Form::Object => run_published(alloc, calendar, room, from, until, writer, errors),
+    match agenda.form {
+        Form::Lines => Ok(Question::Lines(span)),
+        Form::Free => Ok(Question::Free(span)),
+        Form::Object => Ok(Question::Object { from, until }),
+        Form::Page => match PageSpan::of(span) {
+            Some(span) => Ok(Question::Page(span)),
+            None => Err(BadWord::PageSpan(agenda.until.unwrap_or(""))),
+        },
     }
 }
 

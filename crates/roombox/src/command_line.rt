@@ -149,7 +149,7 @@ isn't there; 5 out of memory.
 Example: roombox check kept.ics kept.cert mailto:r1@example.com";
 
 const AGENDA: &str =
-    "Prints what a room has confirmed in a span of time, or when it is free: as lines, or as iCalendar.";
+    "Prints what a room has confirmed in a span of time, or when it is free: as lines, iCalendar or HTML.";
 
 const AGENDA_MORE: &str = "\
 Input: a calendar that `roombox keep` prints. Standard input isn't read.
@@ -164,6 +164,10 @@ expand --help` explains. It only shows them: the calendar names the zone of its 
 
 With --ics, --from and --until it prints an iCalendar object that programs subscribe to, with a
 VEVENT for each instance, all times in UTC also with --zone, and who booked it as SUMMARY.
+
+With --html, --from and --until it prints one page of HTML, which a tablet at the door can show: for
+each day that the span touches when the room is taken, by whom, and when it is free. Days and times
+go by the clocks of --zone, else by UTC. The span is at most 62 days long.
 
 Exit status: 0 done, and with --free, --from and --until: the whole span is free; 1 with these: it
 isn't; 2 usage; 3 CALENDAR is refused: standard error has the number, which docs/REFERENCE.md lists;
@@ -304,6 +308,7 @@ pub enum BadWord<'a> {
     Number(&'a str),
     From(&'a str),
     Until(&'a str),
+    PageSpan(&'a str),
 }
 
 /// The usage fault for such a word, in the form of clap's own.
@@ -329,6 +334,9 @@ pub fn fault_of(alloc: Global, bad: BadWord<'_>) -> Result<Error, AllocError> {
         )?,
         BadWord::Until(word) => format!(in alloc;
             "invalid value '{word}' for '--until <STAMP>': it isn't an instant in UTC behind that of --from, such as 20250415T080000Z"
+        )?,
+        BadWord::PageSpan(word) => format!(in alloc;
+            "invalid value '{word}' for '--until <STAMP>': with --html it is at most 62 days behind that of --from, in the years 2 to 9998"
         )?,
     };
     program(alloc)?.error(ErrorKind::ValueValidation, message.as_str())
@@ -441,12 +449,20 @@ fn agenda_command<'a>(alloc: Global) -> Result<Command<'a>, AllocError> {
     let zone = Arg::new(alloc, "zone")
         .long("zone")
         .value_name("WORDS")
-        .help("The zone of the local times to print too");
+        .help("The zone of the local times to print too, and of the days and times of --html");
     let ics = Arg::new(alloc, "ics")
         .long("ics")
         .action(ArgAction::SetTrue)
         .help("Print an iCalendar object for subscribing; with --from and --until")
         .conflicts_with("free")?
+        .requires_arg("from")?
+        .requires_arg("until")?;
+    let html = Arg::new(alloc, "html")
+        .long("html")
+        .action(ArgAction::SetTrue)
+        .help("Print a page for the room's door; with --from and --until")
+        .conflicts_with("free")?
+        .conflicts_with("ics")?
         .requires_arg("from")?
         .requires_arg("until")?;
     Command::new(alloc, "agenda")
@@ -458,7 +474,8 @@ fn agenda_command<'a>(alloc: Global) -> Result<Command<'a>, AllocError> {
         .arg(until)?
         .arg(zone)?
         .arg(free)?
-        .arg(ics)
+        .arg(ics)?
+        .arg(html)
 }
 
 fn expand_command<'a>(alloc: Global) -> Result<Command<'a>, AllocError> {
@@ -567,6 +584,8 @@ fn form_of<'a>(words: &ArgMatches<'a>) -> Form {
         Form::Free
     } else if words.get_flag("ics") {
         Form::Object
+    } else if words.get_flag("html") {
+        Form::Page
     } else {
         Form::Lines
     }

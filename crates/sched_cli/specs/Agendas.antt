@@ -8,6 +8,7 @@ use Rattle.profile.specs.checker.Publishing.{IsPublished, plain_address}
 use Rattle.profile.specs.events.Confirmed.{Confirmed, IsOneOf}
 use Rattle.profile.specs.series.Zones.{Zone}
 use Rattle.cal_agenda.specs.Gaps.{IsFreeThroughout}
+use Rattle.cal_agenda.specs.Pages.{IsPage}
 use Rattle.cal_agenda.specs.Printing.{LinesOf, IsAgendaLine, IsFreeLine}
 
 -- the lines of what a calendar's octets confirm in a span, by start and then by key, with local times where a zone is given
@@ -51,3 +52,13 @@ pub record IsPublishedText (room octets : List ℕ) (from until : ℤ) (text : L
 -- it was written, whole
 abbrev pub PrintsPublished : List ℕ → List ℕ → ℤ → ℤ → Option (List ℕ) → Option (List ℕ) → Type 0
 PrintsPublished room octets from until old new = (text : List ℕ) × IsPublishedText room octets from until text × Appends old new text
+
+-- the page of what a calendar's octets confirm on the days that a span touches, with the room's name
+pub record IsPageText (zone : Option Zone) (room octets : List ℕ) (from until : ℤ) (text : List ℕ) : Type 0 where
+  pub calendar : Confirmed
+  pub spelled : SpellsCalendar room octets calendar
+  pub page : IsPage (plain_address room) zone (IsOneOf calendar) from until text
+
+-- it was written, whole
+abbrev pub PrintsPage : Option Zone → List ℕ → List ℕ → ℤ → ℤ → Option (List ℕ) → Option (List ℕ) → Type 0
+PrintsPage zone room octets from until old new = (text : List ℕ) × IsPageText zone room octets from until text × Appends old new text

@@ -5,12 +5,14 @@ ghost use Rattle.ical_lines.specs.Fault.{RefusesBy};
 ghost use Rattle.ical_values.specs.Octets.{address_octets};
 ghost use Rattle.profile.specs.checker.Calendars.{CalendarTextFault};
 ghost use Rattle.cal_zones.specs.Kinds.{zone_of};
-ghost use Rattle.sched_cli.specs.Agendas.{IsAgendaText, IsFreeText, IsPublishedText, PrintsAgenda, PrintsFree, PrintsPublished, free_status};
+ghost use Rattle.sched_cli.specs.Agendas.{IsAgendaText, IsFreeText, IsPageText, IsPublishedText, PrintsAgenda, PrintsFree, PrintsPage, PrintsPublished, free_status};
 ghost use Rattle.sched_cli.specs.Commands.{BlamesDevice, IsStatusSaid, SaysLine, TellsDevice, refused_text};
 
 use crate::commands::write_out;
 use crate::status::{DONE, NO, report_read};
-use cal_agenda::{agenda, free_by, is_free, plain_address, publish, write_agenda, write_spans};
+use cal_agenda::{
+    PageSpan, agenda, free_by, html_page, is_free, plain_address, publish, write_agenda, write_spans,
+};
 use cal_events::{Calendar, Span};
 use cal_zones::Zone;
 use ical_lines::Fault;
@@ -162,5 +164,46 @@ fn published_text(
     };
     let instances = agenda(alloc, &calendar, span)?;
     let text = publish(alloc, plain_address(room.as_str()), from, &instances)?;
+    Ok(text)
+}
+
+/// `agenda --html`: prints a page for the room's door, with what the calendar confirms for this room, and when it is free, of each day that a span
+/// touches, by the clocks of a zone, or in UTC.
+pub fn run_page<W: Output, E: Output>(
+    alloc: Global,
+    calendar: &[u8],
+    room: &Address,
+    span: PageSpan,
+    zone: Option<Zone>,
+    writer: &mut W,
+    errors: &mut E,
+) -> u8
+    ensures page { result ≡ 0 → PrintsPage (option_map zone_of zone) (address_octets room.now) calendar.now span.start span.end (W.contents writer.old) (W.contents writer.new) }
+    ensures unwritten { (result ≡ 3) ⊎ (result ≡ 5) → Keeps (W.contents writer.old) (W.contents writer.new) }
+    ensures refused { result ≡ 3 → (n : ℕ) × CalendarTextFault calendar.now n × SaysLine (refused_text n) (E.contents errors.old) (E.contents errors.new) (E.may_lose errors.new) }
+    ensures said { IsStatusSaid result (E.contents errors.old) (E.contents errors.new) (E.may_lose errors.new) }
+    ensures device { BlamesDevice false (W.has_failed writer.new) result }
+    ensures told { TellsDevice result false false (W.has_failed writer.old) (W.has_failed writer.new) }
+    ensures status { (result ≡ 0) ⊎ (result ≡ 3) ⊎ (result ≡ 4) ⊎ (result ≡ 5) }
+{
+    match page_text(alloc, calendar, room, span, zone) {
+        Ok(text) => write_out(writer, errors, text.as_slice()),
+        Err(fault) => report_read(errors, fault),
+    }
+}
+
+/// The page of what a calendar confirms for a room on the days that a span touches.
+fn page_text(
+    alloc: Global,
+    calendar: &[u8],
+    room: &Address,
+    span: PageSpan,
+    zone: Option<Zone>,
+) -> Result<Vec<u8>, Fault>
+    ensures text { IfOk result (λ text. IsPageText (option_map zone_of zone) (address_octets room.now) calendar.now span.start span.end text.items) }
+    ensures fault { IfErr result (RefusesBy (CalendarTextFault calendar.now)) }
+{
+    let calendar = Calendar::read(alloc, calendar, room)?;
+    let text = html_page(alloc, plain_address(room.as_str()), &calendar, zone, span)?;
     Ok(text)
 }

@@ -18,7 +18,7 @@ pub mod status;
 pub mod tally;
 
 pub use adapt::run_adapt;
-pub use agenda::{run_agenda, run_free, run_published};
+pub use agenda::{run_agenda, run_free, run_page, run_published};
 pub use commands::{run_check, run_keep, run_serve};
 pub use diagnosis::run_explain_object;
 pub use expand::run_expand;
