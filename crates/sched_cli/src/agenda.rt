@@ -11,7 +11,8 @@ ghost use Rattle.sched_cli.specs.Commands.{BlamesDevice, IsStatusSaid, SaysLine,
 use crate::commands::write_out;
 use crate::status::{DONE, NO, report_read};
 use cal_agenda::{
-    PageSpan, agenda, free_by, html_page, is_free, plain_address, publish, write_agenda, write_spans,
+    PageSpan, agenda, free_by, html_page, is_free, plain_address, publish, write_agenda,
+    write_spans,
 };
 use cal_events::{Calendar, Span};
 use cal_zones::Zone;
