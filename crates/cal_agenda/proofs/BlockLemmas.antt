@@ -1,12 +1,12 @@
 -- Instances and what they leave of a day are the blocks of the day.
-use Rattle.std.proofs.Common.{◌≡◌, ◌∙◌, ℕ, zero, Bool, true, false, List, [], ◌∷◌, ◌++◌, refl, sym, ap, subst, inl, inr, arith, ℤ, ◌≤ℤ◌, ◌<ℤ◌, append_assoc, append-nil}
+use Rattle.std.proofs.Common.{◌≡◌, ◌∙◌, zero, Bool, true, false, List, [], ◌∷◌, ◌++◌, refl, sym, ap, subst, inl, inr, arith, ℤ, ◌≤ℤ◌, ◌<ℤ◌, append-nil}
 use Rattle.std.specs.Prelude.{Contains, AllPairs, int_lt, if◌then◌else◌}
 use Rattle.std.specs.Int.{int_max}
 use Rattle.std.proofs.lemmas.Int.{ints}
 use Rattle.std.proofs.lemmas.List.Elements.{Contains-append_cases}
 use Rattle.profile.specs.checker.Instances.{Instance}
 use Rattle.profile.specs.checker.Agendas.{AreInSpan, AreFreeSpans, AreBlocks, Block, Taken, Free, taken_in, free_in, block_start}
-use Rattle.cal_events.proofs.shared_lemmas.InOneOrder.{append_pairs, cons_pairs, head_pairs, tail_pairs, first_or_later, later, none_in}
+use Rattle.cal_events.proofs.shared_lemmas.InOneOrder.{cons_pairs, head_pairs, tail_pairs, first_or_later, later, none_in}
 use Rattle.cal_events.proofs.shared_lemmas.Overlaps.{later_of}
 use Rattle.cal_agenda.specs.Gaps.{span_if, gaps}
 use Rattle.cal_agenda.specs.Blocks.{free_if, woven}

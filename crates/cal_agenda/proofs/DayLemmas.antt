@@ -1,6 +1,6 @@
 -- The days that a span touches, as they are found one after another.
-use Rattle.std.proofs.Common.{◌≡◌, ◌∙◌, ℕ, ◌+◌, ◌-◌, ◌*◌, ◌<◌, ◌≤◌, suc, List, [], ◌∷◌, ◌++◌, refl, sym, subst, inl, inr, arith, ℤ, pos, negsuc, ◌+ℤ◌, ◌-ℤ◌, ◌≤ℤ◌, ◌<ℤ◌, to_z, of_z, w64}
-use Rattle.std.specs.Prelude.{Contains, AllPairs, IsTrue, ◌↔◌}
+use Rattle.std.proofs.Common.{◌≡◌, ℕ, ◌+◌, ◌-◌, ◌<◌, ◌≤◌, List, [], ◌∷◌, refl, sym, subst, inl, inr, arith, ℤ, pos, negsuc, ◌+ℤ◌, ◌≤ℤ◌, ◌<ℤ◌}
+use Rattle.std.specs.Prelude.{Contains, AllPairs, ◌↔◌}
 use Rattle.std.specs.Int.{int_max, int_min}
 use Rattle.std.proofs.lemmas.Int.{ints, by_lt_z}
 use Rattle.std.proofs.lemmas.List.Elements.{Contains-append_left, Contains-push, Contains-push_cases}
@@ -11,7 +11,7 @@ use Rattle.profile.specs.checker.Agendas.{IsLocalDay}
 use Rattle.cal_events.proofs.shared_lemmas.InOneOrder.{append_pairs}
 use Rattle.cal_events.proofs.shared_lemmas.Overlaps.{later_of, earlier_of}
 use Rattle.cal_agenda.specs.Pages.{PageDay, IsTouched, AreDays, IsWellWithin}
-use Rattle.cal_agenda.specs.PageDays.{IsNear, IsKept}
+use Rattle.cal_agenda.specs.PageDays.{IsNear, AddsTouched}
 
 -- ---- what a local time means is less than a day from the same reading in UTC
 
@@ -65,7 +65,7 @@ none_sofar zone from until index start begins near early = record {
 
 module _ (zone : Zone) (from until : ℤ) where
   pub one_more_day : (index : ℕ) (start end : ℤ) (old new : List PageDay) → AreDaysSofar zone from until index start old → Means zone (local_time (index + 1) 0) end → IsNear (local_time (index + 1) 0) end
-      → IsKept from until (record { index = index; start = start; end = end }) old new → AreDaysSofar zone from until (index + 1) end new
+      → AddsTouched from until (record { index = index; start = start; end = end }) old new → AreDaysSofar zone from until (index + 1) end new
   one_more_day index start end old new sofar means near (inl (e, touched)) =
       let day : PageDay = record { index = index; start = start; end = end } in
       subst (AreDaysSofar zone from until (index + 1) end) (sym e) (record {

@@ -1,5 +1,5 @@
 -- Instants and what clocks show at them.
-use Rattle.std.proofs.Common.{◌≡◌, ◌∙◌, ap, refl, sym, to_z, of_z, w32, w64, arith, ℕ, List, [], ◌∷◌, ℤ, ◌+ℤ◌}
+use Rattle.std.proofs.Common.{◌≡◌, to_z, of_z, w32, w64, arith, ℕ, List, [], ◌∷◌, ℤ, ◌+ℤ◌}
 use Rattle.std.proofs.lemmas.Int.{ints}
 use Rattle.profile.specs.text.Values.{IsOffset}
 use Rattle.cal_zones.proofs.Casts.{narrow, wide_offset}

@@ -1,9 +1,8 @@
 -- The lines of a day, and the days of a page, one after another.
-use Rattle.std.proofs.Common.{◌≡◌, ◌∙◌, ℕ, ◌+◌, ◌<◌, ◌≤◌, suc, List, [], ◌∷◌, ◌++◌, map, drop, get_or, length, refl, sym, ap, subst, codes, append_assoc, append-nil, drop-cons, arith, ℤ}
+use Rattle.std.proofs.Common.{◌≡◌, ◌∙◌, ℕ, ◌+◌, ◌<◌, suc, List, [], ◌∷◌, ◌++◌, map, drop, get_or, length, refl, sym, ap, subst, codes, append_assoc, append-nil, drop-cons, arith, ℤ}
 use Rattle.std.specs.Int.{int_max}
-use Rattle.std.proofs.lemmas.Int.{ints}
 use Rattle.profile.specs.checker.Instances.{Instance}
-use Rattle.profile.specs.checker.Agendas.{Block, Taken, Free}
+use Rattle.profile.specs.checker.Agendas.{Block, Taken}
 use Rattle.cal_agenda.specs.Html.{joined}
 use Rattle.cal_agenda.specs.Printing.{LinesOf}
 use Rattle.cal_agenda.specs.Blocks.{free_if, woven}

@@ -1,5 +1,5 @@
 -- Texts of a page in HTML: names, days, times and instants.
-use Rattle.std.specs.Prelude.{◌≡◌, ◌≢◌, ◌⊎◌, ℕ, suc, ◌/◌, ◌%◌, ◌<◌, ◌==◌, if◌then◌else◌, ℤ, List, [], ◌∷◌, ◌++◌, codes}
+use Rattle.std.specs.Prelude.{◌≡◌, ◌≢◌, ◌⊎◌, ℕ, suc, ◌/◌, ◌%◌, ◌<◌, ◌==◌, if◌then◌else◌, ℤ, List, [], ◌∷◌, codes}
 use Rattle.std.specs.List.{flat_map}
 use Rattle.profile.specs.text.Values.{two_digits, four_digits}
 use Rattle.profile.specs.series.Days.{year_of, month_of, month_days_before}

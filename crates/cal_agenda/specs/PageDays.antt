@@ -11,6 +11,6 @@ abbrev pub IsNear : ℤ → ℤ → Type 0
 IsNear local instant = ((local -ℤ pos 86_400) <ℤ instant) × (instant <ℤ (local +ℤ pos 86_400))
 
 -- a day was added to others, if a span touches it
-abbrev pub IsKept : ℤ → ℤ → PageDay → List PageDay → List PageDay → Type 0
-IsKept from until day old new =
+abbrev pub AddsTouched : ℤ → ℤ → PageDay → List PageDay → List PageDay → Type 0
+AddsTouched from until day old new =
     ((new ≡ old ++ day ∷ []) × IsTouched from until day) ⊎ ((new ≡ old) × (IsTouched from until day → ⊥))

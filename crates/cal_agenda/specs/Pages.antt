@@ -1,5 +1,5 @@
 -- A page for the door of a room, as HTML: what is taken and what is free of each day that a span of time touches.
-use Rattle.std.specs.Prelude.{◌≡◌, ◌⊎◌, ℕ, ◌<◌, ℤ, pos, negsuc, ◌-ℤ◌, ◌≤ℤ◌, ◌<ℤ◌, List, [], ◌∷◌, AllPairs, Contains, Option, Some, None, codes}
+use Rattle.std.specs.Prelude.{◌≡◌, ℕ, ◌<◌, ℤ, pos, negsuc, ◌-ℤ◌, ◌≤ℤ◌, ◌<ℤ◌, List, [], ◌∷◌, AllPairs, Contains, Option, Some, None, codes}
 use Rattle.std.specs.Int.{int_max, int_min}
 use Rattle.profile.specs.series.Days.{weekday_of}
 use Rattle.profile.specs.series.Zones.{Zone, Constant}
@@ -30,12 +30,12 @@ pub record AreDays (zone : Zone) (from until : ℤ) (days : List PageDay) : Type
 
 -- ---- a day
 
--- an instant, or the end of the day that it is behind
+-- an instant of a day, or where it isn't in it the nearer end of the day
 abbrev pub in_day : PageDay → ℤ → ℤ
 in_day day instant = int_max day.start (int_min instant day.end)
 
 -- when something begins and ends on a day; what began before it begins with it, and what goes on behind it ends with it
-pub record AreTimes (zone : Zone) (day : PageDay) (start end : ℤ) (text : List ℕ) : Type 0 where
+pub record AreTimesOfDay (zone : Zone) (day : PageDay) (start end : ℤ) (text : List ℕ) : Type 0 where
   pub begins : List ℕ
   pub ends : List ℕ
   pub first : List ℕ
@@ -56,8 +56,8 @@ free_line times = joined (codes "<li class=\"free\"><span class=\"when\">" ∷ t
 -- the line of a block; who booked an instance is its organiser
 abbrev pub IsBlockLine : Zone → PageDay → Block → List ℕ → Type 0
 IsBlockLine zone day (Taken a) line =
-    (times : List ℕ) × AreTimes zone day a.start a.end times × (line ≡ taken_line times (html (plain_address a.key.organiser)))
-IsBlockLine zone day (Free start end) line = (times : List ℕ) × AreTimes zone day start end times × (line ≡ free_line times)
+    (times : List ℕ) × AreTimesOfDay zone day a.start a.end times × (line ≡ taken_line times (html (plain_address a.key.organiser)))
+IsBlockLine zone day (Free start end) line = (times : List ℕ) × AreTimesOfDay zone day start end times × (line ≡ free_line times)
 
 -- the heading of a day: its weekday and its date
 abbrev pub day_heading : ℕ → List ℕ

@@ -4,7 +4,7 @@ ghost use Rattle.std.specs.Int.{int_max, int_min};
 ghost use Rattle.profile.specs.series.Zones.{Means, local_time};
 ghost use Rattle.cal_zones.specs.Kinds.{zone_of};
 ghost use Rattle.cal_agenda.specs.Pages.{AreDays, IsTouched, IsWellWithin, in_day};
-ghost use Rattle.cal_agenda.specs.PageDays.{IsKept, IsNear, day_said};
+ghost use Rattle.cal_agenda.specs.PageDays.{AddsTouched, IsNear, day_said};
 
 use crate::in_span::has_instant;
 use crate::page_span::{LocalDay, PageSpan};
@@ -14,7 +14,7 @@ use cal_zones::Zone;
 use ical_values::LocalTime;
 use std::alloc::{AllocError, Global};
 
-/// An instant, or the end of the day that it is behind.
+/// An instant of a day, or where it isn't in it the nearer end of the day.
 pub(crate) fn in_day(day: &LocalDay, instant: i64) -> i64
     ensures value { result ≡ in_day (day_said day.now) instant }
     ensures range { IsWellWithin result }
@@ -45,7 +45,7 @@ pub(crate) fn days_of(
 
 /// Adds a day to others, if a span touches it. Fails only when out of memory.
 fn keep(days: &mut Vec<LocalDay>, day: LocalDay, span: PageSpan) -> Result<(), AllocError>
-    ensures { OnOk result (IsKept span.start span.end (day_said day) (map day_said days.old.items) (map day_said days.new.items)) }
+    ensures { OnOk result (AddsTouched span.start span.end (day_said day) (map day_said days.old.items) (map day_said days.new.items)) }
 {
     if !is_touched(&day, span) {
         return Ok(());

@@ -6,7 +6,7 @@ ghost use Rattle.cal_zones.specs.Kinds.{zone_of};
 ghost use Rattle.cal_events.specs.Calendar.{instance_of};
 ghost use Rattle.cal_agenda.specs.Blocks.{free_if, woven};
 ghost use Rattle.cal_agenda.specs.PageDays.{day_said};
-ghost use Rattle.cal_agenda.specs.Pages.{AreTimes, IsBlockLine, IsPage, IsSection, clock_words, day_heading, page_clocks, page_opening};
+ghost use Rattle.cal_agenda.specs.Pages.{AreTimesOfDay, IsBlockLine, IsPage, IsSection, clock_words, day_heading, page_clocks, page_opening};
 ghost use Rattle.cal_agenda.specs.Printing.{LinesOf};
 
 use crate::confirmed::agenda;
@@ -251,7 +251,7 @@ fn times_text(
     start: i64,
     end: i64,
 ) -> Result<Vec<u8>, AllocError>
-    ensures { IfOk result (λ text. AreTimes (zone_of zone.now) (day_said day.now) start end text.items) }
+    ensures { IfOk result (λ text. AreTimesOfDay (zone_of zone.now) (day_said day.now) start end text.items) }
 {
     let start = in_day(day, start);
     let end = in_day(day, end);

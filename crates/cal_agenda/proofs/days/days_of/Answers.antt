@@ -1,10 +1,8 @@
-use Rattle.std.proofs.Common.{◌≡◌, ◌∙◌, ◌+◌, ◌-◌, ◌≤◌, ap, sym, subst, map, List, arith, to_z, of_z, w64, rules, FitsSigned, to_z-of_z}
-use Rattle.profile.specs.series.Zones.{Means, local_time}
+use Rattle.std.proofs.Common.{◌≡◌, ◌∙◌, ◌-◌, ◌≤◌, subst, map, arith, to_z, of_z, w64, rules, FitsSigned, to_z-of_z}
 use Rattle.cal_zones.specs.Kinds.{zone_of}
 use Rattle.cal_agenda.specs.Pages.{PageDay, IsWellWithin}
-use Rattle.cal_agenda.specs.PageDays.{IsKept, IsNear, day_said}
+use Rattle.cal_agenda.specs.PageDays.{AddsTouched, day_said}
 use Rattle.cal_agenda.proofs.DayLemmas.{AreDaysSofar, none_sofar, one_more_day, all_days, first_from, last_to, before_first, near_within, over}
-use Rattle.cal_agenda.proofs.HtmlLemmas.{wide}
 use Rattle.cal_agenda.proofs.days.days_of.Goals as goal
 
 pub loop-index-init : goal.loop-index-init
@@ -50,7 +48,7 @@ loop-index-preserved c =
     let sofar : AreDaysSofar zone span.start span.end index start old = rw c.loop-index.start-is at c.loop-index.invariant in
     let (same_index, same_start) = c.day_from-day.ensures.same in
     let same : day_said day ≡ record { index = index; start = start; end = day.end } = λ i. record { index = same_index i; start = (same_start ∙ c.loop-index.start-is) i; end = day.end } in
-    let kept : IsKept span.start span.end (record { index = index; start = start; end = day.end }) old new = subst (λ (d : PageDay). IsKept span.start span.end d old new) same c.in_ok-keep.ensures in
+    let kept : AddsTouched span.start span.end (record { index = index; start = start; end = day.end }) old new = subst (λ (d : PageDay). AddsTouched span.start span.end d old new) same c.in_ok-keep.ensures in
     rw cast (one_more_day zone span.start span.end index start day.end old new sofar c.day_from-day.ensures.end c.day_from-day.ensures.near kept)
 
 pub returns : goal.returns

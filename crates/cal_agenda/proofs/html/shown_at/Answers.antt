@@ -1,6 +1,6 @@
-use Rattle.std.proofs.Common.{◌≡◌, ◌∙◌, sym, rules, ◌+ℤ◌, to_z, of_z, w64}
+use Rattle.std.proofs.Common.{◌≡◌, ◌∙◌, sym, rules, ◌+ℤ◌}
 use Rattle.profile.specs.series.Days.{IsDayNumber, day_index}
-use Rattle.profile.specs.series.Zones.{IsOffsetAt, local_time}
+use Rattle.profile.specs.series.Zones.{IsOffsetAt}
 use Rattle.cal_zones.specs.Kinds.{zone_of}
 use Rattle.cal_zones.proofs.Lasts.{local_of_day}
 use Rattle.cal_agenda.proofs.HtmlLemmas.{shown_sum, wide}

@@ -1,10 +1,8 @@
-use Rattle.std.proofs.Common.{◌≡◌, ◌∙◌, ◌∷◌, [], sym, rules, refl, ap, List, ℕ, codes, ◌%◌, to_z, of_z, w64, to_z-of_z}
+use Rattle.std.proofs.Common.{◌≡◌, ◌∙◌, ◌∷◌, [], sym, rules, codes, to_z, of_z, w64, to_z-of_z}
 use Rattle.std.proofs.lemmas.Result.{IfOk-weaker}
-use Rattle.profile.specs.text.Values.{two_digits}
 use Rattle.profile.specs.series.Days.{IsDayNumber, day_index}
-use Rattle.profile.specs.series.Zones.{local_time}
 use Rattle.cal_zones.proofs.Lasts.{local_of_day}
-use Rattle.cal_agenda.specs.Html.{IsUtcText, joined, date_text, clock_text}
+use Rattle.cal_agenda.specs.Html.{IsUtcText, joined}
 use Rattle.cal_agenda.proofs.HtmlLemmas.{six_joined}
 use Rattle.cal_agenda.proofs.html.utc_text.Goals as goal
 

@@ -1,4 +1,4 @@
-use Rattle.std.proofs.Common.{◌≡◌, ◌∙◌, ◌∷◌, [], List, ℕ, map, option_map, sym, subst, codes}
+use Rattle.std.proofs.Common.{◌≡◌, ◌∙◌, ◌∷◌, [], List, map, option_map, subst}
 use Rattle.std.proofs.lemmas.Result.{IfOk-weaker}
 use Rattle.profile.specs.series.Zones.{Zone}
 use Rattle.profile.specs.events.Confirmed.{IsOneOf}
@@ -6,7 +6,7 @@ use Rattle.cal_zones.specs.Kinds.{zone_of}
 use Rattle.cal_agenda.specs.Html.{joined}
 use Rattle.cal_agenda.specs.Printing.{LinesOf}
 use Rattle.cal_agenda.specs.PageDays.{day_said}
-use Rattle.cal_agenda.specs.Pages.{AreDays, IsPage, IsSection, PageDay, page_clocks, page_closing, page_opening}
+use Rattle.cal_agenda.specs.Pages.{AreDays, IsPage, IsSection, page_clocks, page_closing, page_opening}
 use Rattle.cal_agenda.specs.declared.page_span.LocalDay.{LocalDay}
 use Rattle.cal_agenda.proofs.page.html_page.Goals as goal
 

@@ -1,4 +1,4 @@
-use Rattle.std.proofs.Common.{◌≡◌, ◌∙◌, [], refl, map, drop, get_or, pos, to_z, of_z, w64, to_z-of_z, rules, FitsSigned}
+use Rattle.std.proofs.Common.{◌≡◌, [], refl, map, drop, get_or, pos, to_z, of_z, w64, to_z-of_z, rules, FitsSigned}
 use Rattle.std.proofs.lemmas.List.{drop_all}
 use Rattle.cal_zones.specs.Kinds.{zone_of}
 use Rattle.cal_events.specs.Calendar.{instance_of}

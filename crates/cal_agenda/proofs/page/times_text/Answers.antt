@@ -3,7 +3,7 @@ use Rattle.std.proofs.lemmas.Result.{IfOk-weaker}
 use Rattle.cal_zones.specs.Kinds.{zone_of}
 use Rattle.cal_agenda.specs.Html.{joined, IsClockText, IsEndText, IsTimeElement}
 use Rattle.cal_agenda.specs.PageDays.{day_said}
-use Rattle.cal_agenda.specs.Pages.{AreTimes, in_day}
+use Rattle.cal_agenda.specs.Pages.{AreTimesOfDay, in_day}
 use Rattle.cal_agenda.proofs.HtmlLemmas.{wide}
 use Rattle.cal_agenda.proofs.page.times_text.Goals as goal
 
@@ -25,7 +25,7 @@ returns c =
     let shows_end : IsEndText zone day.end last c.end_shown_at.result = rw (of_day_cast, last_cast) at c.end_shown_at.ensures in
     let first_is : IsTimeElement first c.shown_at.result c.in_ok-first.first.items = rw first_cast at c.in_ok-first.ensures in
     let last_is : IsTimeElement last c.end_shown_at.result c.in_ok-last.last.items = rw last_cast at c.in_ok-last.ensures in
-    IfOk-weaker c.joined.result (λ text. text.items ≡ joined (c.deref.result.now ∷ codes "&ndash;" ∷ c.deref-2.result.now ∷ [])) (λ text. AreTimes zone day c.args.start c.args.end text.items)
+    IfOk-weaker c.joined.result (λ text. text.items ≡ joined (c.deref.result.now ∷ codes "&ndash;" ∷ c.deref-2.result.now ∷ [])) (λ text. AreTimesOfDay zone day c.args.start c.args.end text.items)
     (λ text is. record {
       begins = c.shown_at.result;
       ends = c.end_shown_at.result;
