@@ -45,9 +45,9 @@ section:first-child { grid-column: 1 / -1; }
 section:first-child h2 { font-size: 2rem; }
 section:first-child h2 time { display: inline; font-size: 1.25rem; }
 section:first-child ol { grid-template-columns: repeat(auto-fill, minmax(min(100%, 19.5rem), 1fr)); }
-section:first-child .when { font-size: 2.75rem; line-height: 1.1; }
-section:first-child b { font-size: 1.75rem; }
-section:first-child .who { font-size: 1.375rem; }
+section:first-child .when { font-size: clamp(2.5rem, 4.2vw, 3.375rem); line-height: 1.1; }
+section:first-child b { font-size: 2rem; line-height: 1.2; }
+section:first-child .who { font-size: 1.5rem; }
 ";
 
 /// The page of a room, by its name, with what its calendar confirms on each day that a span touches: its times, who booked it, and when the room is
