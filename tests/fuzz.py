@@ -146,7 +146,7 @@ zone mailto:ann@example.com +0530
 organiser mailto:ann@example.com""".split("\n")
 OCTETS = b"\0\t\n\r\x1b !\",.:;=\\\x7f\x80\xbf\xc3\xe2\xff"
 # of the command line
-WORDS = ["serve", "keep", "check", "expand", "explain", "box", "adapt", "agenda", "meetings", "--free", "--ics", "--from", "--until", "--reply-to", "--single", "--adapt", "--zones", "help", "--help", "-h", "--version", "--report", "--certificate", "--limit", "--limit=1", "--zone", "--zone=", "--zone=+0530", "--", "-", "", ROOM]
+WORDS = ["serve", "keep", "check", "expand", "explain", "box", "adapt", "agenda", "meetings", "--free", "--ics", "--html", "--from", "--until", "--reply-to", "--single", "--adapt", "--zones", "help", "--help", "-h", "--version", "--report", "--certificate", "--limit", "--limit=1", "--zone", "--zone=", "--zone=+0530", "--", "-", "", ROOM]
 WORDS += ["r1", "no/such/file", ".", *NUMBERS, *(f"--zone={words}" for words in ROOM_ZONES)]
 
 # ---- what is spoiled
@@ -445,7 +445,7 @@ def agenda_case(spoiler):
     for name in ("--from", "--until"):
         if spoiler.chance.random() < 0.9:
             words += [name, spoiler.chance.choice(("20250301T000000Z", "20250310T090000Z", "20260101T000000Z", spoiler.chance.choice(TIMES)))]
-    return Case(["agenda", "calendar", ROOM, *words, *spoiler.chance.choice(([], ["--free"], ["--ics"], ["--zone=-0500 -0400 11 1SU 0200 3 2SU 0200"]))],
+    return Case(["agenda", "calendar", ROOM, *words, *spoiler.chance.choice(([], ["--free"], ["--ics"], ["--html"], ["--zone=-0500 -0400 11 1SU 0200 3 2SU 0200"]))],
                 files={"calendar": spoiler.spoiled("calendar", spoiler.chance.choice((0, 1, None)))})
 
 

@@ -214,6 +214,7 @@ def main():
         readable = ample([program, "adapt"], history)
         answer = ample([program, "serve", "--adapt"], b"now 20250102T000000Z\nroom mailto:room1@example.com\nroom mailto:room1@rooms.example.net\n\n" + moved)
         back = [program, "adapt", "--reply-to", original, "--single"]
+        page = [program, "agenda", kept, room, "--html", "--from", "20250309T000000Z", "--until", "20250312T000000Z", f"--zone={NEW_YORK}"]
         conversation = open(os.path.join(os.path.dirname(__file__), "..", "examples", "organiser-conversation.ics-stream"), "rb").read()
         rows = [
             ("an object with history at the door", [program, "adapt"], history, [b"", readable]),
@@ -224,6 +225,8 @@ def main():
             ("an agenda with local times", [program, "agenda", kept, room, "--zone=+0100 +0200 10 -1SU 0300 3 -1SU 0200"], b"",
              [b"", b"20250310T090000Z 20250310T100000Z 20250310T100000 20250310T110000 a mailto:ann@example.com\n"]),
             ("an agenda that is published", [program, "agenda", kept, room, "--ics", "--from", "20250310T000000Z", "--until", "20250311T000000Z"], b"", [b"", PUBLISHED]),
+            # what a page says, tests/page.py judges
+            ("a page for a room's door", page, b"", [b"", ample(page, b"")]),
             ("the meetings of an organiser", [program, "meetings", "mailto:ann@example.com"], conversation, [b"", SHOWN]),
             ("what of a zone is in the way", [program, "explain"], read("explain-head", "zone-with-until", "explain-event"), [b"", read("explained-with-until")], 1),
             ("an accepted request", [program, "serve"], read("preamble", "request-a"), [b"", accepted]),
