@@ -442,14 +442,27 @@ fn agenda_command<'a>(alloc: Global) -> Result<Command<'a>, AllocError> {
         .long("until")
         .value_name("STAMP")
         .help("The instant behind the span, in UTC; the year 10000 where it isn't given");
-    let free = Arg::new(alloc, "free")
-        .long("free")
-        .action(ArgAction::SetTrue)
-        .help("Print when the room is free; status 1 where it isn't all of the span");
     let zone = Arg::new(alloc, "zone")
         .long("zone")
         .value_name("WORDS")
         .help("The zone of the local times to print too, and of the days and times of --html");
+    let command = Command::new(alloc, "agenda")
+        .about(AGENDA)
+        .after_help(AGENDA_MORE)
+        .arg(required(alloc, "CALENDAR", CALENDAR_HELP))?
+        .arg(required(alloc, "ROOM", ROOM_HELP))?
+        .arg(from)?
+        .arg(until)?
+        .arg(zone)?;
+    with_forms(alloc, command)
+}
+
+/// The command, with the words for what it prints in place of lines.
+fn with_forms<'a>(alloc: Global, command: Command<'a>) -> Result<Command<'a>, AllocError> {
+    let free = Arg::new(alloc, "free")
+        .long("free")
+        .action(ArgAction::SetTrue)
+        .help("Print when the room is free; status 1 where it isn't all of the span");
     let ics = Arg::new(alloc, "ics")
         .long("ics")
         .action(ArgAction::SetTrue)
@@ -465,17 +478,7 @@ fn agenda_command<'a>(alloc: Global) -> Result<Command<'a>, AllocError> {
         .conflicts_with("ics")?
         .requires_arg("from")?
         .requires_arg("until")?;
-    Command::new(alloc, "agenda")
-        .about(AGENDA)
-        .after_help(AGENDA_MORE)
-        .arg(required(alloc, "CALENDAR", CALENDAR_HELP))?
-        .arg(required(alloc, "ROOM", ROOM_HELP))?
-        .arg(from)?
-        .arg(until)?
-        .arg(zone)?
-        .arg(free)?
-        .arg(ics)?
-        .arg(html)
+    command.arg(free)?.arg(ics)?.arg(html)
 }
 
 fn expand_command<'a>(alloc: Global) -> Result<Command<'a>, AllocError> {
