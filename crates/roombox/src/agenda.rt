@@ -76,7 +76,7 @@ pub(crate) fn invoke_agenda<R: Runtime + AllocGlobal>(
     let mut errors = DeviceWriter::new(ErrorPrinter { to: rt });
     let calendar = match read_file(rt, alloc, agenda.calendar) {
         Ok(octets) => octets,
-        Err(fault) => return report_file(&mut errors, fault),
+        Err(fault) => return report_file(rt, alloc, agenda.calendar, fault),
     };
     let asked = Asked {
         room: &room,

@@ -1,15 +1,16 @@
 //! Behind the door: commands whose objects are made readable on their way in, and answers on their way back.
 
 use crate::host::{
-    ErrorPrinter, Folders, answer_files, no_memory, read_file, read_input, report_file,
+    ErrorPrinter, Folders, INPUT, answer_files, no_memory, read_file, read_input, report_file,
 };
+use crate::reasons::{Wanted, WatchedReader, WatchedWriter, say_output, say_reasons};
 use ical_lines::{Fault, Limits, Unfolded};
 use ical_tree::{Component, read_object};
 use ical_values::Address;
 use sched_box::{DeviceReader, DeviceWriter, Input, Output};
 use sched_cli::commands::{KeptText, run_keep, run_serve};
-use sched_cli::status::report_read;
-use sched_cli::{Tally, WayBack, run_adapt, run_meetings, run_returned, run_serve_report};
+use sched_cli::status::{DEVICE, DONE, REFUSED, report_read};
+use sched_cli::{Log, Tally, WayBack, run_adapt, run_meetings, run_returned, run_serve_report};
 use sched_devices::DiskFolder;
 use sched_doors::{AdaptedInbox, Door};
 use std::alloc::Global;
@@ -58,7 +59,7 @@ pub(crate) fn run_behind<R: Runtime + AllocGlobal>(
     let mut errors = DeviceWriter::new(ErrorPrinter { to: rt });
     let octets = match read_file(rt, alloc, path) {
         Ok(octets) => octets,
-        Err(fault) => return report_file(&mut errors, fault),
+        Err(fault) => return report_file(rt, alloc, path, fault),
     };
     let text = match Unfolded::read(alloc, octets.as_slice(), Limits::Open) {
         Ok(text) => text,
@@ -105,15 +106,16 @@ fn hand_back<R: Runtime + AllocGlobal>(
     let mut errors = DeviceWriter::new(ErrorPrinter { to: rt });
     let octets = match read_input(rt, alloc) {
         Ok(octets) => octets,
-        Err(fault) => return report_file(&mut errors, fault),
+        Err(fault) => return report_file(rt, alloc, INPUT, fault),
     };
     let way = WayBack {
         original: answers.original,
         listed,
         is_single: answers.is_single,
     };
-    let mut writer = DeviceWriter::new(io::writer(rt));
-    run_returned(alloc, way, octets.as_slice(), &mut writer, &mut errors)
+    let mut writer = DeviceWriter::new(WatchedWriter::new(io::writer(rt)));
+    let status = run_returned(alloc, way, octets.as_slice(), &mut writer, &mut errors);
+    say_output(rt, alloc, status, writer.get_ref().kind())
 }
 
 /// Does the work on standard input.
@@ -123,73 +125,106 @@ fn run_stream<R: Runtime + AllocGlobal>(
     listed: Option<&Component<'_>>,
     work: StreamWork<'_>,
 ) -> u8 {
-    let Ok(reader) = DeviceReader::new(alloc, rt.reader()) else {
+    let Ok(mut input) = WatchedReader::new(alloc, rt.reader()) else {
         return no_memory(rt);
     };
-    let mut door = Door::new(alloc, listed, reader);
+    let mut output = WatchedWriter::new(io::writer(rt));
+    let status = match DeviceReader::new(alloc, &mut input) {
+        Ok(reader) => {
+            let mut door = Door::new(alloc, listed, reader);
+            work_behind(rt, alloc, &mut door, DeviceWriter::new(&mut output), work)
+        }
+        Err(_) => return no_memory(rt),
+    };
+    let wanted = match work {
+        StreamWork::Keep { room, kept: _ } => Wanted::Room(room),
+        StreamWork::Meetings { organiser } => Wanted::Organiser(organiser),
+        StreamWork::Adapt { report: _ } | StreamWork::Serve { report: _ } => Wanted::All,
+    };
+    if status == REFUSED && is_adapt(work) {
+        return status;
+    }
+    say_reasons(rt, alloc, status, &input, output.kind(), wanted)
+}
+
+/// Whether the stream has no preamble that is read.
+fn is_adapt(work: StreamWork<'_>) -> bool {
     match work {
-        StreamWork::Adapt { report } => adapt_behind(rt, alloc, &mut door, report),
-        StreamWork::Serve { report } => serve_behind(rt, alloc, &mut door, report),
-        StreamWork::Keep { room, kept } => keep_behind(rt, alloc, &mut door, room, kept),
-        StreamWork::Meetings { organiser } => show_behind(rt, alloc, &mut door, organiser),
+        StreamWork::Adapt { report: _ } => true,
+        StreamWork::Serve { report: _ }
+        | StreamWork::Keep { room: _, kept: _ }
+        | StreamWork::Meetings { organiser: _ } => false,
     }
 }
 
-fn adapt_behind<R: Runtime + AllocGlobal, I: Input + Drop>(
+/// Does the work, and writes to this writer.
+fn work_behind<R: Runtime + AllocGlobal, I: Input + Drop, W: Output + Drop>(
     rt: &R,
     alloc: Global,
     door: &mut Door<'_, '_, I>,
-    report: bool,
+    writer: W,
+    work: StreamWork<'_>,
 ) -> u8 {
-    let mut errors = DeviceWriter::new(ErrorPrinter { to: rt });
-    let mut writer = DeviceWriter::new(io::writer(rt));
-    run_adapt(alloc, door, report, &mut writer, &mut errors)
+    let mut writer = writer;
+    match work {
+        StreamWork::Adapt { report } => {
+            let mut errors = DeviceWriter::new(ErrorPrinter { to: rt });
+            run_adapt(alloc, door, report, &mut writer, &mut errors)
+        }
+        StreamWork::Serve { report } => serve_behind(rt, alloc, door, writer, report),
+        StreamWork::Keep { room, kept } => keep_behind(rt, alloc, door, &mut writer, room, kept),
+        StreamWork::Meetings { organiser } => {
+            show_behind(rt, alloc, door, &mut writer, organiser)
+        }
+    }
 }
 
-fn serve_behind<R: Runtime + AllocGlobal, I: Input + Drop>(
+fn serve_behind<R: Runtime + AllocGlobal, I: Input + Drop, W: Output + Drop>(
     rt: &R,
     alloc: Global,
     door: &mut Door<'_, '_, I>,
+    writer: W,
     report: bool,
 ) -> u8 {
     let Ok(mut said) = Vec::with_capacity(alloc, SAID) else {
         return no_memory(rt);
     };
-    let mut writer = DeviceWriter::new(io::writer(rt));
+    let mut writer = writer;
     let status = if report {
-        run_serve_report(alloc, door, &mut Tally::new(writer), &mut said)
+        let mut log = Log::new(alloc, DeviceWriter::new(ErrorPrinter { to: rt }));
+        run_serve_report(alloc, door, &mut Tally::new(writer), &mut log, &mut said)
     } else {
         run_serve(alloc, door, &mut writer, &mut said)
     };
     say_at_end(rt, door, said.as_slice(), status)
 }
 
-fn keep_behind<R: Runtime + AllocGlobal, I: Input + Drop>(
+fn keep_behind<R: Runtime + AllocGlobal, I: Input + Drop, W: Output>(
     rt: &R,
     alloc: Global,
     door: &mut Door<'_, '_, I>,
+    writer: &mut W,
     room: &Address,
     kept: KeptText,
 ) -> u8 {
     let Ok(mut said) = Vec::with_capacity(alloc, SAID) else {
         return no_memory(rt);
     };
-    let mut writer = DeviceWriter::new(io::writer(rt));
-    let status = run_keep(alloc, room, kept, door, &mut writer, &mut said);
+    let status = run_keep(alloc, room, kept, door, writer, &mut said);
     say_at_end(rt, door, said.as_slice(), status)
 }
 
-fn show_behind<R: Runtime + AllocGlobal, I: Input + Drop>(
+fn show_behind<R: Runtime + AllocGlobal, I: Input + Drop, W: Output>(
     rt: &R,
     alloc: Global,
     door: &mut Door<'_, '_, I>,
+    writer: &mut W,
     organiser: &Address,
 ) -> u8 {
     let Ok(mut said) = Vec::with_capacity(alloc, SAID) else {
         return no_memory(rt);
     };
-    let mut writer = DeviceWriter::new(io::writer(rt));
-    let status = run_meetings(alloc, organiser, door, &mut writer, &mut said);
+    let status = run_meetings(alloc, organiser, door, writer, &mut said);
     say_at_end(rt, door, said.as_slice(), status)
 }
 
@@ -204,7 +239,9 @@ fn say_at_end<R: Runtime + AllocGlobal, I: Input + Drop>(
     if door.is_out_of_memory() {
         return no_memory(rt);
     }
-    // Where standard error fails, nobody is left to be told.
-    let _ = DeviceWriter::new(ErrorPrinter { to: rt }).put(said);
-    status
+    match DeviceWriter::new(ErrorPrinter { to: rt }).put(said) {
+        Err(_) if status == DONE => DEVICE,
+        // Where standard error fails too, nobody is left to be told.
+        _ => status,
+    }
 }

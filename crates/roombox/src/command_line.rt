@@ -49,6 +49,7 @@ pub enum Invocation<'a> {
         config: &'a str,
         inbox: &'a str,
         outbox: &'a str,
+        report: bool,
         reading: Reading<'a>,
     },
 }
@@ -286,6 +287,12 @@ const READABLE_HELP: &str = "Make objects readable on their way in, as `roombox 
 
 const ZONES_HELP: &str = "The file of VTIMEZONEs for names without one";
 
+const REPORT_HELP: &str =
+    "Say on standard error which objects came to nothing and why; at the end how many were refused, by number";
+
+const BOX_REPORT_HELP: &str =
+    "Say on standard error which objects of files that weren't answered before came to nothing, and why";
+
 const REPLY_TO_HELP: &str = "Hand on answers to the object of this file, in its words";
 
 const SINGLE_HELP: &str = "Hand on each VEVENT of an answer in an object of its own";
@@ -365,7 +372,7 @@ fn serve_command<'a>(alloc: Global) -> Result<Command<'a>, AllocError> {
     let report = Arg::new(alloc, "report")
         .long("report")
         .action(ArgAction::SetTrue)
-        .help("At the end, say on standard error how many objects were refused, by number");
+        .help(REPORT_HELP);
     let serve = Command::new(alloc, "serve")
         .about(SERVE)
         .after_help(SERVE_MORE)
@@ -504,9 +511,14 @@ fn explain_command<'a>(alloc: Global) -> Result<Command<'a>, AllocError> {
 }
 
 fn box_command<'a>(alloc: Global) -> Result<Command<'a>, AllocError> {
+    let report = Arg::new(alloc, "report")
+        .long("report")
+        .action(ArgAction::SetTrue)
+        .help(BOX_REPORT_HELP);
     let command = Command::new(alloc, "box")
         .about(BOX)
         .after_help(BOX_MORE)
+        .arg(report)?
         .arg(required(alloc, "CONFIG", CONFIG_HELP))?
         .arg(required(alloc, "INBOX", INBOX_HELP))?
         .arg(required(alloc, "OUTBOX", OUTBOX_HELP))?;
@@ -569,6 +581,7 @@ fn invocation_of<'a>(matches: &ArgMatches<'a>) -> Invocation<'a> {
             config: words.get_str("CONFIG").unwrap_or(""),
             inbox: words.get_str("INBOX").unwrap_or(""),
             outbox: words.get_str("OUTBOX").unwrap_or(""),
+            report: words.get_flag("report"),
             reading: reading_of(words),
         },
         Some(("serve", words)) => Invocation::Serve {

@@ -4,15 +4,20 @@ use crate::agenda::invoke_agenda;
 use crate::behind::{Answers, StreamWork, Work, read_whole, run_behind};
 use crate::command_line::{BadWord, Invocation, Reading, fault_of, read_words};
 use crate::progress::Progress;
+use crate::reasons::{
+    Wanted, WatchedReader, WatchedWriter, say_configuration, say_device, say_folder, say_output,
+    say_reasons,
+};
 use cal_zones::RoomZone;
 use ical_lines::Fault;
 use ical_values::Address;
 use sched_box::config::LONGEST;
-use sched_box::{DeviceReader, DeviceWriter, Output};
+use sched_box::{DeviceReader, DeviceWriter, Input, Output};
 use sched_cli::commands::{KeptText, run_check, run_keep, run_serve};
 use sched_cli::status::{USAGE, report_device, report_memory, report_read, report_too_long};
 use sched_cli::{
-    Tally, run_expand, run_explain, run_explain_object, run_folders, run_meetings, run_serve_report,
+    Log, Tally, run_expand, run_explain, run_explain_object, run_folders, run_folders_report,
+    run_meetings, run_serve_report,
 };
 use sched_devices::{DiskFolder, Folder};
 use std::alloc::Global;
@@ -29,6 +34,9 @@ const MOST_INSTANCES: usize = 100_000;
 
 /// The octets that `expand` and `explain` read: one more than an object may have.
 const OBJECT_OCTETS: u64 = 1_048_577;
+
+/// What standard input is called.
+pub(crate) const INPUT: &str = "standard input";
 
 /// The octets that `box` reads of a configuration: one more than it may have.
 const CONFIG_OCTETS: u64 = LONGEST as u64 + 1;
@@ -54,8 +62,10 @@ impl<R: Eprint> Write for ErrorPrinter<'_, R> {
 }
 
 /// Why a file isn't taken.
+#[derive(Clone, Copy)]
 pub(crate) enum FileFault {
-    Device,
+    /// It can't be read, for this reason.
+    Device(ErrorKind),
     TooLong,
     Memory,
 }
@@ -158,8 +168,16 @@ fn invoke<R: Runtime + AllocGlobal>(
             config,
             inbox,
             outbox,
+            report,
             reading,
-        } => invoke_box(rt, alloc, stderr, config, inbox, outbox, reading),
+        } => {
+            let folders = FolderWords {
+                inbox,
+                outbox,
+                report,
+            };
+            invoke_box(rt, alloc, stderr, config, folders, reading)
+        }
     }
 }
 
@@ -211,15 +229,41 @@ fn invoke_serve<R: Runtime + AllocGlobal>(
     if let Reading::Adapted(zones) = reading {
         return run_behind(rt, alloc, zones, Work::Stream(StreamWork::Serve { report }));
     }
-    let mut errors = DeviceWriter::new(ErrorPrinter { to: rt });
-    let Ok(mut reader) = DeviceReader::new(alloc, rt.reader()) else {
+    let Ok(mut input) = WatchedReader::new(alloc, rt.reader()) else {
         return no_memory(rt);
     };
-    let mut writer = DeviceWriter::new(io::writer(rt));
-    if report {
-        return run_serve_report(alloc, &mut reader, &mut Tally::new(writer), &mut errors);
-    }
-    run_serve(alloc, &mut reader, &mut writer, &mut errors)
+    let mut output = WatchedWriter::new(io::writer(rt));
+    let status = match DeviceReader::new(alloc, &mut input) {
+        Ok(mut reader) => {
+            let mut writer = DeviceWriter::new(&mut output);
+            if report {
+                serve_reporting(rt, alloc, &mut reader, writer)
+            } else {
+                let mut errors = DeviceWriter::new(ErrorPrinter { to: rt });
+                run_serve(alloc, &mut reader, &mut writer, &mut errors)
+            }
+        }
+        Err(_) => return no_memory(rt),
+    };
+    say_reasons(rt, alloc, status, &input, output.kind(), Wanted::All)
+}
+
+/// Serves, and says what came to nothing.
+fn serve_reporting<R: Runtime + AllocGlobal, I: Input, W: Output + Drop>(
+    rt: &R,
+    alloc: Global,
+    reader: &mut I,
+    writer: W,
+) -> u8 {
+    let mut errors = DeviceWriter::new(ErrorPrinter { to: rt });
+    let mut log = Log::new(alloc, DeviceWriter::new(ErrorPrinter { to: rt }));
+    run_serve_report(
+        alloc,
+        reader,
+        &mut Tally::new(writer),
+        &mut log,
+        &mut errors,
+    )
 }
 
 fn invoke_keep<R: Runtime + AllocGlobal>(
@@ -237,12 +281,19 @@ fn invoke_keep<R: Runtime + AllocGlobal>(
             Work::Stream(StreamWork::Keep { room, kept }),
         );
     }
-    let mut errors = DeviceWriter::new(ErrorPrinter { to: rt });
-    let Ok(mut reader) = DeviceReader::new(alloc, rt.reader()) else {
+    let Ok(mut input) = WatchedReader::new(alloc, rt.reader()) else {
         return no_memory(rt);
     };
-    let mut writer = DeviceWriter::new(io::writer(rt));
-    run_keep(alloc, room, kept, &mut reader, &mut writer, &mut errors)
+    let mut output = WatchedWriter::new(io::writer(rt));
+    let status = match DeviceReader::new(alloc, &mut input) {
+        Ok(mut reader) => {
+            let mut errors = DeviceWriter::new(ErrorPrinter { to: rt });
+            let mut writer = DeviceWriter::new(&mut output);
+            run_keep(alloc, room, kept, &mut reader, &mut writer, &mut errors)
+        }
+        Err(_) => return no_memory(rt),
+    };
+    say_reasons(rt, alloc, status, &input, output.kind(), Wanted::Room(room))
 }
 
 fn invoke_meetings<R: Runtime + AllocGlobal>(
@@ -259,12 +310,26 @@ fn invoke_meetings<R: Runtime + AllocGlobal>(
             Work::Stream(StreamWork::Meetings { organiser }),
         );
     }
-    let mut errors = DeviceWriter::new(ErrorPrinter { to: rt });
-    let Ok(mut reader) = DeviceReader::new(alloc, rt.reader()) else {
+    let Ok(mut input) = WatchedReader::new(alloc, rt.reader()) else {
         return no_memory(rt);
     };
-    let mut writer = DeviceWriter::new(io::writer(rt));
-    run_meetings(alloc, organiser, &mut reader, &mut writer, &mut errors)
+    let mut output = WatchedWriter::new(io::writer(rt));
+    let status = match DeviceReader::new(alloc, &mut input) {
+        Ok(mut reader) => {
+            let mut errors = DeviceWriter::new(ErrorPrinter { to: rt });
+            let mut writer = DeviceWriter::new(&mut output);
+            run_meetings(alloc, organiser, &mut reader, &mut writer, &mut errors)
+        }
+        Err(_) => return no_memory(rt),
+    };
+    say_reasons(
+        rt,
+        alloc,
+        status,
+        &input,
+        output.kind(),
+        Wanted::Organiser(organiser),
+    )
 }
 
 /// Hands on answers to the object of a file, which has to be one.
@@ -278,7 +343,7 @@ fn invoke_reply_to<R: Runtime + AllocGlobal>(
     let mut errors = DeviceWriter::new(ErrorPrinter { to: rt });
     let original = match read_file(rt, alloc, original) {
         Ok(octets) => octets,
-        Err(fault) => return report_file(&mut errors, fault),
+        Err(fault) => return report_file(rt, alloc, original, fault),
     };
     if let Err(fault) = read_whole(alloc, original.as_slice()) {
         return report_read(&mut errors, fault);
@@ -300,21 +365,22 @@ fn invoke_check<R: Runtime + AllocGlobal>(
     let mut errors = DeviceWriter::new(ErrorPrinter { to: rt });
     let calendar = match read_file(rt, alloc, calendar) {
         Ok(octets) => octets,
-        Err(fault) => return report_file(&mut errors, fault),
+        Err(fault) => return report_file(rt, alloc, calendar, fault),
     };
     let certificate = match read_file(rt, alloc, certificate) {
         Ok(octets) => octets,
-        Err(fault) => return report_file(&mut errors, fault),
+        Err(fault) => return report_file(rt, alloc, certificate, fault),
     };
-    let mut writer = DeviceWriter::new(io::writer(rt));
-    run_check(
+    let mut writer = DeviceWriter::new(WatchedWriter::new(io::writer(rt)));
+    let status = run_check(
         alloc,
         calendar.as_slice(),
         certificate.as_slice(),
         room,
         &mut writer,
         &mut errors,
-    )
+    );
+    say_output(rt, alloc, status, writer.get_ref().kind())
 }
 
 /// The number that the word of `--limit` spells: decimal digits, from 1 to 100,000.
@@ -329,16 +395,14 @@ fn limit_of(word: &str) -> Option<usize> {
 }
 
 /// The octets of one object from standard input, one more than it may have at most; else the status of what was said.
-fn read_object<R: Runtime + AllocGlobal, E: Output>(
-    rt: &R,
-    alloc: Global,
-    errors: &mut E,
-) -> Result<Vec<u8>, u8> {
+fn read_object<R: Runtime + AllocGlobal>(rt: &R, alloc: Global) -> Result<Vec<u8>, u8> {
     let mut octets = Vec::new(alloc);
     match rt.reader().take(OBJECT_OCTETS).read_to_end(&mut octets) {
         Ok(_) => Ok(octets),
-        Err(error) if error.kind() == ErrorKind::OutOfMemory => Err(report_memory(errors)),
-        Err(_) => Err(report_device(errors)),
+        Err(error) => {
+            let fault = fault_of_kind(error.kind());
+            Err(report_file(rt, alloc, INPUT, fault))
+        }
     }
 }
 
@@ -349,17 +413,18 @@ fn invoke_expand<R: Runtime + AllocGlobal>(
     limit: usize,
 ) -> u8 {
     let mut errors = DeviceWriter::new(ErrorPrinter { to: rt });
-    match read_object(rt, alloc, &mut errors) {
+    match read_object(rt, alloc) {
         Ok(octets) => {
-            let mut writer = DeviceWriter::new(io::writer(rt));
-            run_expand(
+            let mut writer = DeviceWriter::new(WatchedWriter::new(io::writer(rt)));
+            let status = run_expand(
                 alloc,
                 octets.as_slice(),
                 zone,
                 limit,
                 &mut writer,
                 &mut errors,
-            )
+            );
+            say_output(rt, alloc, status, writer.get_ref().kind())
         }
         Err(status) => status,
     }
@@ -367,12 +432,39 @@ fn invoke_expand<R: Runtime + AllocGlobal>(
 
 fn invoke_explain_object<R: Runtime + AllocGlobal>(rt: &R, alloc: Global) -> u8 {
     let mut errors = DeviceWriter::new(ErrorPrinter { to: rt });
-    match read_object(rt, alloc, &mut errors) {
+    match read_object(rt, alloc) {
         Ok(octets) => {
-            let mut writer = DeviceWriter::new(io::writer(rt));
-            run_explain_object(alloc, octets.as_slice(), &mut writer, &mut errors)
+            let mut writer = DeviceWriter::new(WatchedWriter::new(io::writer(rt)));
+            let status = run_explain_object(alloc, octets.as_slice(), &mut writer, &mut errors);
+            say_output(rt, alloc, status, writer.get_ref().kind())
         }
         Err(status) => status,
+    }
+}
+
+/// The number in a word, which may be a line that says it: `REFUSED;OBJECT=3:43`, `roombox: refused 43` or `no 82`.
+fn number_of(word: &str) -> &str {
+    let word = word.trim_ascii();
+    if let Some(rest) = word.strip_prefix("REFUSED;OBJECT=") {
+        return match rest.split_once(':') {
+            Some((_, number)) => number,
+            None => rest,
+        };
+    }
+    if let Some(number) = word.strip_prefix("roombox: refused ") {
+        return number;
+    }
+    match word.strip_prefix("no ") {
+        Some(rest) => first_word(rest),
+        None => word,
+    }
+}
+
+/// What comes before a blank.
+fn first_word(text: &str) -> &str {
+    match text.split_once(' ') {
+        Some((word, _)) => word,
+        None => text,
     }
 }
 
@@ -380,7 +472,7 @@ fn invoke_explain_object<R: Runtime + AllocGlobal>(rt: &R, alloc: Global) -> u8 
 fn invoke_explain<R: Runtime + AllocGlobal>(rt: &R, alloc: Global, word: &str) -> u8 {
     let mut errors = DeviceWriter::new(ErrorPrinter { to: rt });
     let mut writer = DeviceWriter::new(io::writer(rt));
-    let status = match word.parse::<u8>() {
+    let status = match number_of(word).parse::<u8>() {
         Ok(number) => run_explain(number, &mut writer, &mut errors),
         Err(_) => USAGE,
     };
@@ -395,27 +487,33 @@ fn invoke_box<R: Runtime + AllocGlobal>(
     rt: &R,
     alloc: Global,
     stderr: Stderr,
-    config: &str,
-    inbox: &str,
-    outbox: &str,
+    path: &str,
+    words: FolderWords<'_>,
     reading: Reading<'_>,
 ) -> u8 {
-    let config = match read_front(rt, alloc, config, CONFIG_OCTETS) {
+    let config = match read_front(rt, alloc, path, CONFIG_OCTETS) {
         Ok(octets) => octets,
-        Err(fault) => {
-            return report_file(&mut DeviceWriter::new(ErrorPrinter { to: rt }), fault);
-        }
+        Err(fault) => return report_file(rt, alloc, path, fault),
     };
     let folders = Folders {
         config: config.as_slice(),
-        inbox,
-        outbox,
+        inbox: words.inbox,
+        outbox: words.outbox,
+        report: words.report,
         is_watched: stderr.is_terminal(),
     };
     match reading {
-        Reading::Plain => answer_files(rt, alloc, folders, DiskFolder::new(rt, inbox)),
+        Reading::Plain => answer_files(rt, alloc, folders, DiskFolder::new(rt, words.inbox)),
         Reading::Adapted(zones) => run_behind(rt, alloc, zones, Work::Files(folders)),
     }
+}
+
+/// The folders that the words of `box` name.
+#[derive(Clone, Copy)]
+struct FolderWords<'a> {
+    inbox: &'a str,
+    outbox: &'a str,
+    report: bool,
 }
 
 /// What `box` works on.
@@ -424,6 +522,8 @@ pub(crate) struct Folders<'a> {
     pub(crate) config: &'a [u8],
     pub(crate) inbox: &'a str,
     pub(crate) outbox: &'a str,
+    /// It is said what came to nothing.
+    pub(crate) report: bool,
     /// Someone watches how far it is.
     pub(crate) is_watched: bool,
 }
@@ -435,21 +535,60 @@ pub(crate) fn answer_files<R: Runtime + AllocGlobal, I: Folder + Drop>(
     folders: Folders<'_>,
     inbox: I,
 ) -> u8 {
-    let mut errors = DeviceWriter::new(ErrorPrinter { to: rt });
-    let mut outbox = DiskFolder::new(rt, folders.outbox);
     if folders.is_watched {
-        let mut shown = Progress::new(rt, inbox);
-        return run_folders(alloc, folders.config, &mut shown, &mut outbox, &mut errors);
+        return answer_inbox(rt, alloc, folders, &mut Progress::new(rt, inbox));
     }
     let mut inbox = inbox;
-    run_folders(alloc, folders.config, &mut inbox, &mut outbox, &mut errors)
+    answer_inbox(rt, alloc, folders, &mut inbox)
 }
 
-pub(crate) fn report_file<E: Output>(errors: &mut E, fault: FileFault) -> u8 {
+/// Answers them, and says what came to nothing where that is wanted.
+fn answer_inbox<R: Runtime + AllocGlobal, I: Folder>(
+    rt: &R,
+    alloc: Global,
+    folders: Folders<'_>,
+    inbox: &mut I,
+) -> u8 {
+    let mut errors = DeviceWriter::new(ErrorPrinter { to: rt });
+    let mut outbox = DiskFolder::new(rt, folders.outbox);
+    let status = if folders.report {
+        let mut log = Log::new(alloc, DeviceWriter::new(ErrorPrinter { to: rt }));
+        run_folders_report(
+            alloc,
+            folders.config,
+            inbox,
+            &mut outbox,
+            &mut log,
+            &mut errors,
+        )
+    } else {
+        run_folders(alloc, folders.config, inbox, &mut outbox, &mut errors)
+    };
+    if inbox.failures() > 0 {
+        say_folder(rt, alloc, folders.inbox);
+    }
+    if outbox.failures() > 0 {
+        say_folder(rt, alloc, folders.outbox);
+    }
+    say_configuration(rt, alloc, status, folders.config)
+}
+
+/// Says why a file isn't taken, or standard input, and gives the status for it.
+pub(crate) fn report_file<R: Runtime + AllocGlobal>(
+    rt: &R,
+    alloc: Global,
+    name: &str,
+    fault: FileFault,
+) -> u8 {
+    let mut errors = DeviceWriter::new(ErrorPrinter { to: rt });
     match fault {
-        FileFault::Device => report_device(errors),
-        FileFault::TooLong => report_too_long(errors),
-        FileFault::Memory => report_memory(errors),
+        FileFault::Device(kind) => {
+            let status = report_device(&mut errors);
+            say_device(rt, alloc, name, kind);
+            status
+        }
+        FileFault::TooLong => report_too_long(&mut errors),
+        FileFault::Memory => report_memory(&mut errors),
     }
 }
 
@@ -470,8 +609,15 @@ pub(crate) fn read_input<R: Runtime + AllocGlobal>(
     let mut octets = Vec::new(alloc);
     match rt.reader().take(MOST_OCTETS + 1).read_to_end(&mut octets) {
         Ok(_) => within_limit(octets),
-        Err(error) if error.kind() == ErrorKind::OutOfMemory => Err(FileFault::Memory),
-        Err(_) => Err(FileFault::Device),
+        Err(error) => Err(fault_of_kind(error.kind())),
+    }
+}
+
+/// Why octets couldn't be read.
+fn fault_of_kind(kind: ErrorKind) -> FileFault {
+    match kind {
+        ErrorKind::OutOfMemory => FileFault::Memory,
+        kind => FileFault::Device(kind),
     }
 }
 
@@ -489,13 +635,13 @@ fn read_front<R: Runtime + AllocGlobal>(
     path: &str,
     most: u64,
 ) -> Result<Vec<u8>, FileFault> {
-    let Ok(file) = File::open(rt, path) else {
-        return Err(FileFault::Device);
+    let file = match File::open(rt, path) {
+        Ok(file) => file,
+        Err(error) => return Err(FileFault::Device(error.kind())),
     };
     let mut octets = Vec::new(alloc);
     match file.take(most).read_to_end(&mut octets) {
         Ok(_) => Ok(octets),
-        Err(error) if error.kind() == ErrorKind::OutOfMemory => Err(FileFault::Memory),
-        Err(_) => Err(FileFault::Device),
+        Err(error) => Err(fault_of_kind(error.kind())),
     }
 }

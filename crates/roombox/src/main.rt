@@ -6,6 +6,7 @@ mod behind;
 mod command_line;
 mod host;
 mod progress;
+mod reasons;
 
 use std::process::ExitCode;
 

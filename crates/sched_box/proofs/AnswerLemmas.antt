@@ -1,8 +1,10 @@
 -- The rooms of a box take a message, and their answers follow one another.
-use Rattle.std.proofs.Common.{◌≡◌, true, false, inl, inr, ℕ, zero, suc, ◌+◌, ◌<◌, ◌≤◌, ℤ, List, [], ◌∷◌, ◌++◌, length, take, drop, get_or, set, Option, Some, None, refl, sym, ap, subst, ◌∙◌, arith, take_all, length-set, codes, decimal, Result, Ok, Err, OnOk}
+use Rattle.std.proofs.Common.{◌≡◌, ◌||◌, Bool, true, false, inl, inr, ℕ, zero, suc, ◌+◌, ◌<◌, ◌≤◌, ℤ, List, [], ◌∷◌, ◌++◌, length, take, drop, get_or, set, Option, Some, None, refl, sym, ap, subst, ◌∙◌, arith, take_all, length-set, codes, decimal, Result, Ok, Err, OnOk}
 use Rattle.std.specs.Option.{option_to_list}
 use Rattle.std.specs.List.{flat_map, list_any}
 use Rattle.std.specs.Str.{bytes_eq}
+use Rattle.std.proofs.Math.Bool.{or-false}
+use Rattle.std.proofs.lemmas.List.Folds.{list_any-append}
 use Rattle.std.proofs.lemmas.List.{append_assoc, append-nil, get_or-map, map-append, take-append-drop, take_more, take_more_set, drop_more, drop_all, drop-set-lt}
 use Rattle.cal_zones.specs.RoomZones.{room_of, words_of}
 use Rattle.ical_values.specs.Octets.{address_octets}
@@ -16,6 +18,7 @@ use Rattle.profile.specs.rooms.Rooms as machine
 use Rattle.profile.specs.rooms.Rooms.{Book, Claim, IsStep}
 use Rattle.profile.specs.rooms.Kept.{Replies, Refreshes}
 use Rattle.profile.specs.series.Zones.{Zone}
+use Rattle.profile.specs.streams.Reports.{AllBecome, is_change, is_repeat, is_stale}
 use Rattle.profile.specs.streams.Streams.{AllTake, AreClaims, Hosted, TakesMessage, refused_line}
 use Rattle.profile.specs.streams.Worlds as worlds
 use Rattle.profile.specs.streams.Worlds.{ChangesOne}
@@ -23,6 +26,8 @@ use Rattle.room_books.specs.Room.{Represents, StepsWith}
 use Rattle.room_books.specs.declared.room.Room.{Room}
 use Rattle.sched_box.specs.Answering.{room_addresses, AreHosted, IsHosted, RoomSends, RoomTakes, RoomsSend, RoomsTake, sent_octets}
 use Rattle.sched_box.specs.Asked.{asks}
+use Rattle.sched_box.specs.Journal.{AreEffects}
+use Rattle.sched_box.specs.declared.journal.Effects.{Effects}
 use Rattle.sched_box.proofs.AskedLemmas.{left_out}
 use Rattle.sched_box.proofs.HostLemmas.{none_hosted, one_behind}
 
@@ -66,14 +71,44 @@ room_sends moment message old new kind reply refresh steps same same_zone said r
       },
     )
 
--- it answers with the octets of what it sends
+-- it answers with the octets of what it sends, and what became of it goes by the same step
 pub room_takes : (moment : ℤ) (message : Message) (old new : Room) (kind : machine.Kind) (reply refresh : Option (List ℕ))
     → ((said : profile.Message) → RepresentsMessage message said → (book : Book) → Represents old.meetings.entries book
     → (claims : List Claim) × AreClaims (address_octets old.address) (room_of old.zone) said claims × StepsWith (address_octets old.address) new.meetings.entries book claims moment kind reply (is_add said.method) refresh)
-    → new.address ≡ old.address → new.zone ≡ old.zone → RoomTakes moment message old new (sent_octets reply ++ sent_octets refresh)
+    → new.address ≡ old.address → new.zone ≡ old.zone → RoomTakes moment message old new (sent_octets reply ++ sent_octets refresh) kind
 room_takes moment message old new kind reply refresh steps same same_zone said represented before has =
-    let (after, is, stays, takes) = room_sends moment message old new kind reply refresh steps same same_zone said represented before has in
-    (after, is, record { same = stays; sent = option_to_list reply ++ option_to_list refresh; takes = takes; is = sent_is reply refresh })
+    let room = address_octets old.address in
+    let (claims, are, with') = steps said represented before.book has.represents in
+    let P : List ℕ → Type 0 = λ a. AreClaims a (room_of old.zone) said claims in
+    let Z : Option Zone → Type 0 = λ zone. AreClaims before.address zone said claims in
+    let Q : List ℕ → Type 0 = λ a. Replies a with'.steps.after claims reply in
+    let R : List ℕ → Type 0 = λ a. Refreshes a (is_add said.method) before.book.taken with'.steps.after.taken claims moment refresh in
+    let of_room = subst Z (sym has.zone) (subst P (sym has.at) are) in (
+      record before { book = with'.steps.after },
+      record {
+        at = has.at ∙ ap address_octets (sym same);
+        words = has.words ∙ ap words_of (sym same_zone);
+        zone = has.zone ∙ ap room_of (sym same_zone);
+        represents = with'.steps.represents;
+      },
+      record {
+        same = refl;
+        sent = option_to_list reply ++ option_to_list refresh;
+        takes = record {
+          claims = claims;
+          are = of_room;
+          outcome = with'.steps.outcome;
+          step = with'.steps.step;
+          reply = reply;
+          replies = subst Q (sym has.at) with'.replies;
+          refresh = refresh;
+          refreshes = subst R (sym has.at) with'.refreshes;
+          is = refl;
+        };
+        is = sent_is reply refresh;
+      },
+      record { claims = claims; are = of_room; outcome = with'.steps.outcome; step = with'.steps.step; is = with'.steps.kind_is },
+    )
 
 -- ---- the room in its place
 
@@ -120,45 +155,49 @@ unsent moment message to rooms sent none nothing said represented before have =
 
 -- ---- all rooms
 
-pub rooms_push : (moment : ℤ) (message : Message) (olds news : List Room) (old new : Room) (octets first : List ℕ) → RoomsTake moment message olds news octets
-    → new.address ≡ old.address → RoomTakes moment message old new first → RoomsTake moment message (olds ++ old ∷ []) (news ++ new ∷ []) (octets ++ first)
-rooms_push moment message [] [] old new octets first r same t = (first, [], ap (λ z. z ++ first) r ∙ sym (append-nil first), same, t, refl)
-rooms_push moment message [] (n ∷ ns) old new octets first r same t = absurd r
-rooms_push moment message (o ∷ os) [] old new octets first r same t = absurd r
-rooms_push moment message (o ∷ os) (n ∷ ns) old new octets first (one, rest, is, here, takes, others) same t =
-    (one, rest ++ first, ap (λ z. z ++ first) is ∙ append_assoc one rest first, here, takes, rooms_push moment message os ns old new rest first others same t)
+pub rooms_push : (moment : ℤ) (message : Message) (olds news : List Room) (old new : Room) (octets first : List ℕ) (kinds : List machine.Kind) (kind : machine.Kind)
+    → RoomsTake moment message olds news octets kinds → new.address ≡ old.address → RoomTakes moment message old new first kind
+    → RoomsTake moment message (olds ++ old ∷ []) (news ++ new ∷ []) (octets ++ first) (kinds ++ kind ∷ [])
+rooms_push moment message [] [] old new octets first kinds kind (none, nothing) same t =
+    (first, [], kind, [], ap (λ z. z ++ first) none ∙ sym (append-nil first), ap (λ z. z ++ kind ∷ []) nothing, same, t, (refl, refl))
+rooms_push moment message [] (n ∷ ns) old new octets first kinds kind r same t = absurd r
+rooms_push moment message (o ∷ os) [] old new octets first kinds kind r same t = absurd r
+rooms_push moment message (o ∷ os) (n ∷ ns) old new octets first kinds kind (one, rest, this, those, is, are, here, takes, others) same t =
+    (one, rest ++ first, this, those ++ kind ∷ [], ap (λ z. z ++ first) is ∙ append_assoc one rest first, ap (λ z. z ++ kind ∷ []) are, here, takes, rooms_push moment message os ns old new rest first those kind others same t)
 
-pub same_addresses : (moment : ℤ) (message : Message) (olds news : List Room) (octets : List ℕ) → RoomsTake moment message olds news octets → room_addresses news ≡ room_addresses olds
-same_addresses moment message [] [] octets r = refl
-same_addresses moment message [] (n ∷ ns) octets r = absurd r
-same_addresses moment message (o ∷ os) [] octets r = absurd r
-same_addresses moment message (o ∷ os) (n ∷ ns) octets (one, rest, is, here, takes, others) =
-    ap (λ a. address_octets a ∷ room_addresses ns) here ∙ ap (λ z. address_octets o.address ∷ z) (same_addresses moment message os ns rest others)
+pub same_addresses : (moment : ℤ) (message : Message) (olds news : List Room) (octets : List ℕ) (kinds : List machine.Kind) → RoomsTake moment message olds news octets kinds → room_addresses news ≡ room_addresses olds
+same_addresses moment message [] [] octets kinds r = refl
+same_addresses moment message [] (n ∷ ns) octets kinds r = absurd r
+same_addresses moment message (o ∷ os) [] octets kinds r = absurd r
+same_addresses moment message (o ∷ os) (n ∷ ns) octets kinds (one, rest, this, those, is, are, here, takes, others) =
+    ap (λ a. address_octets a ∷ room_addresses ns) here ∙ ap (λ z. address_octets o.address ∷ z) (same_addresses moment message os ns rest those others)
 
-pub all_take : (moment : ℤ) (message : Message) (said : profile.Message) → RepresentsMessage message said → (olds news : List Room) (octets : List ℕ) → RoomsTake moment message olds news octets
-    → (before : List Hosted) → AreHosted olds before → (after : List Hosted) × AreHosted news after × AllTake moment said before after octets
-all_take moment message said represented [] [] octets r [] h = ([], tt, r)
-all_take moment message said represented [] [] octets r (b ∷ bs) h = absurd h
-all_take moment message said represented [] (n ∷ ns) octets r before h = absurd r
-all_take moment message said represented (o ∷ os) [] octets r before h = absurd r
-all_take moment message said represented (o ∷ os) (n ∷ ns) octets r [] h = absurd h
-all_take moment message said represented (o ∷ os) (n ∷ ns) octets (one, rest, is, here, takes, others) (b ∷ bs) h =
-    let (after, has, first) = takes said represented b h.0 in
-    let (afters, have, more) = all_take moment message said represented os ns rest others bs h.1 in
-    (after ∷ afters, (has, have), (one, rest, is, first, more))
+pub all_take : (moment : ℤ) (message : Message) (said : profile.Message) → RepresentsMessage message said → (olds news : List Room) (octets : List ℕ) (kinds : List machine.Kind) → RoomsTake moment message olds news octets kinds
+    → (before : List Hosted) → AreHosted olds before → (after : List Hosted) × AreHosted news after × AllTake moment said before after octets × AllBecome moment said before after kinds
+all_take moment message said represented [] [] octets kinds (none, nothing) [] h = ([], tt, none, nothing)
+all_take moment message said represented [] [] octets kinds r (b ∷ bs) h = absurd h
+all_take moment message said represented [] (n ∷ ns) octets kinds r before h = absurd r
+all_take moment message said represented (o ∷ os) [] octets kinds r before h = absurd r
+all_take moment message said represented (o ∷ os) (n ∷ ns) octets kinds r [] h = absurd h
+all_take moment message said represented (o ∷ os) (n ∷ ns) octets kinds (one, rest, this, those, is, are, here, takes, others) (b ∷ bs) h =
+    let (after, has, first, became) = takes said represented b h.0 in
+    let (afters, have, more, became_more) = all_take moment message said represented os ns rest those others bs h.1 in
+    (after ∷ afters, (has, have), (one, rest, is, first, more), (this, those, are, became, became_more))
 
 -- ---- the loop over the rooms
 
 -- the first rooms have taken the message
-pub record TakenSofar (moment : ℤ) (message : Message) (olds news : List Room) (i : ℕ) (before after : List ℕ) : Type 0 where
+pub record TakenSofar (moment : ℤ) (message : Message) (olds news : List Room) (i : ℕ) (before after : List ℕ) (effects : Effects) : Type 0 where
   pub octets : List ℕ
+  pub kinds : List machine.Kind
   pub is : after ≡ before ++ octets
-  pub takes : RoomsTake moment message (take i olds) (take i news) octets
+  pub takes : RoomsTake moment message (take i olds) (take i news) octets kinds
+  pub are : AreEffects kinds effects
   pub rest : drop i news ≡ drop i olds
   pub long : length news ≡ length olds
 
-pub taken_none : (moment : ℤ) (message : Message) (rooms : List Room) (octets : List ℕ) → TakenSofar moment message rooms rooms 0 octets octets
-taken_none moment message rooms octets = record { octets = []; is = sym (append-nil octets); takes = refl; rest = refl; long = refl }
+pub taken_none : (moment : ℤ) (message : Message) (rooms : List Room) (octets : List ℕ) (effects : Effects) → AreEffects [] effects → TakenSofar moment message rooms rooms 0 octets octets effects
+taken_none moment message rooms octets effects none = record { octets = []; kinds = []; is = sym (append-nil octets); takes = (refl, refl); are = none; rest = refl; long = refl }
 
 -- apart, as nothing else is needed for them
 within_olds : (i m n : ℕ) → i < n → n ≡ m → i < m
@@ -167,58 +206,78 @@ within_olds i m n l e = omega arith
 before_next : (i : ℕ) → i < i + 1
 before_next i = omega arith
 
-pub taken_more : (moment : ℤ) (message : Message) (olds news : List Room) (i : ℕ) (before mid after : List ℕ) (d new : Room) (first : List ℕ)
-    → TakenSofar moment message olds news i before mid → i < length news → new.address ≡ (get_or news i d).address
-    → RoomTakes moment message (get_or news i d) new first → after ≡ mid ++ first → TakenSofar moment message olds (set news i new) (i + 1) before after
-taken_more moment message olds news i before mid after d new first so l same takes is =
+pub taken_more : (moment : ℤ) (message : Message) (olds news : List Room) (i : ℕ) (before mid after : List ℕ) (d new : Room) (first : List ℕ) (kind : machine.Kind) (effects more : Effects)
+    → TakenSofar moment message olds news i before mid effects → i < length news → new.address ≡ (get_or news i d).address
+    → RoomTakes moment message (get_or news i d) new first kind → after ≡ mid ++ first → ((kinds : List machine.Kind) → AreEffects kinds effects → AreEffects (kinds ++ kind ∷ []) more)
+    → TakenSofar moment message olds (set news i new) (i + 1) before after more
+taken_more moment message olds news i before mid after d new first kind effects more so l same takes is adds =
     let l' : i < length olds = within_olds i (length olds) (length news) l so.long in
     let old = get_or news i d in
     let both : old ∷ drop (i + 1) news ≡ get_or olds i d ∷ drop (i + 1) olds = sym (drop_more news i d l) ∙ so.rest ∙ drop_more olds i d l' in
     let head : get_or olds i d ≡ old = cc in
     let tail : drop (i + 1) news ≡ drop (i + 1) olds = cc in
     let olds_is : take (i + 1) olds ≡ take i olds ++ old ∷ [] = take_more olds i d l' ∙ ap (λ r. take i olds ++ r ∷ []) head in
-    let P : List Room → List Room → Type 0 = λ a b. RoomsTake moment message a b (so.octets ++ first) in
+    let P : List Room → List Room → Type 0 = λ a b. RoomsTake moment message a b (so.octets ++ first) (so.kinds ++ kind ∷ []) in
     record {
       octets = so.octets ++ first;
+      kinds = so.kinds ++ kind ∷ [];
+      are = adds so.kinds so.are;
       is = is ∙ ap (λ z. z ++ first) so.is ∙ append_assoc before so.octets first;
       takes =
           subst (λ a. P a (take (i + 1) (set news i new))) (sym olds_is)
-          (subst (P (take i olds ++ old ∷ [])) (sym (take_more_set news i new l)) (rooms_push moment message (take i olds) (take i news) old new so.octets first so.takes same takes));
+          (subst (P (take i olds ++ old ∷ [])) (sym (take_more_set news i new l)) (rooms_push moment message (take i olds) (take i news) old new so.octets first so.kinds kind so.takes same takes));
       rest = drop-set-lt (i + 1) news i new (before_next i) ∙ tail;
       long = length-set news i new ∙ so.long;
     }
 
-pub taken_all : (moment : ℤ) (message : Message) (olds news : List Room) (i : ℕ) (before after : List ℕ) → TakenSofar moment message olds news i before after
-    → length news ≤ i → (more : List ℕ) × (after ≡ before ++ more) × RoomsTake moment message olds news more
-taken_all moment message olds news i before after so end =
+pub taken_all : (moment : ℤ) (message : Message) (olds news : List Room) (i : ℕ) (before after : List ℕ) (effects : Effects) → TakenSofar moment message olds news i before after effects
+    → length news ≤ i → (more : List ℕ) × (kinds : List machine.Kind) × (after ≡ before ++ more) × RoomsTake moment message olds news more kinds × AreEffects kinds effects
+taken_all moment message olds news i before after effects so end =
     let long = so.long in
-    let P : List Room → List Room → Type 0 = λ a b. RoomsTake moment message a b so.octets in
-    (so.octets, so.is, subst (λ a. P a news) (take_all i olds (omega arith)) (subst (P (take i olds)) (take_all i news end) so.takes))
+    let P : List Room → List Room → Type 0 = λ a b. RoomsTake moment message a b so.octets so.kinds in
+    (so.octets, so.kinds, so.is, subst (λ a. P a news) (take_all i olds (omega arith)) (subst (P (take i olds)) (take_all i news end) so.takes), so.are)
 
 -- the rooms keep their addresses, whoever has taken it
-pub addresses_sofar : (moment : ℤ) (message : Message) (olds news : List Room) (i : ℕ) (before after : List ℕ) → TakenSofar moment message olds news i before after → room_addresses news ≡ room_addresses olds
-addresses_sofar moment message olds news i before after so =
+pub addresses_sofar : (moment : ℤ) (message : Message) (olds news : List Room) (i : ℕ) (before after : List ℕ) (effects : Effects) → TakenSofar moment message olds news i before after effects → room_addresses news ≡ room_addresses olds
+addresses_sofar moment message olds news i before after effects so =
     let f : Room → List ℕ = λ room. address_octets room.address in
     ap room_addresses (sym (take-append-drop i news)) ∙ map-append f (take i news) (drop i news)
-    ∙ ap (λ z. z ++ room_addresses (drop i news)) (same_addresses moment message (take i olds) (take i news) so.octets so.takes)
+    ∙ ap (λ z. z ++ room_addresses (drop i news)) (same_addresses moment message (take i olds) (take i news) so.octets so.kinds so.takes)
     ∙ ap (λ z. room_addresses (take i olds) ++ room_addresses z) so.rest
     ∙ sym (map-append f (take i olds) (drop i olds)) ∙ ap room_addresses (take-append-drop i olds)
 
 -- the room that comes next is as it was
-next_as_was : (moment : ℤ) (message : Message) (olds news : List Room) (i : ℕ) (before after : List ℕ) (d : Room) → TakenSofar moment message olds news i before after → i < length news → get_or news i d ≡ get_or olds i d
-next_as_was moment message olds news i before after d so l =
+next_as_was : (moment : ℤ) (message : Message) (olds news : List Room) (i : ℕ) (before after : List ℕ) (d : Room) (effects : Effects) → TakenSofar moment message olds news i before after effects → i < length news → get_or news i d ≡ get_or olds i d
+next_as_was moment message olds news i before after d effects so l =
     let l' : i < length olds = within_olds i (length olds) (length news) l so.long in
     let both : get_or news i d ∷ drop (i + 1) news ≡ get_or olds i d ∷ drop (i + 1) olds = sym (drop_more news i d l) ∙ so.rest ∙ drop_more olds i d l' in
     cc
 
+-- ---- what became of it, with a room more
+
+pub effects_more : (kinds : List machine.Kind) (kind : machine.Kind) (old new : Effects) → new.changed ≡ (old.changed || is_change kind) → new.repeated ≡ (old.repeated || is_repeat kind) → new.stale ≡ (old.stale || is_stale kind)
+    → AreEffects kinds old → AreEffects (kinds ++ kind ∷ []) new
+effects_more kinds kind old new changed repeated stale are = record {
+  changed = changed ∙ ap (λ b. b || is_change kind) are.changed ∙ sym (any_last is_change kinds kind);
+  repeated = repeated ∙ ap (λ b. b || is_repeat kind) are.repeated ∙ sym (any_last is_repeat kinds kind);
+  stale = stale ∙ ap (λ b. b || is_stale kind) are.stale ∙ sym (any_last is_stale kinds kind);
+}
+  where
+    any_last : (p : machine.Kind → Bool) (ks : List machine.Kind) (k : machine.Kind) → list_any p (ks ++ k ∷ []) ≡ (list_any p ks || p k)
+    any_last p ks k = list_any-append p ks (k ∷ []) ∙ ap (λ b. list_any p ks || b) (or-false (p k))
+
+-- it isn't addressed to that one
+passed_over : (kinds : List machine.Kind) (effects : Effects) → AreEffects kinds effects → AreEffects (kinds ++ machine.NotAddressed ∷ []) effects
+passed_over kinds effects are = effects_more kinds machine.NotAddressed effects effects (sym (or-false _)) (sym (or-false _)) (sym (or-false _)) are
+
 -- a room that the message isn't for is passed over
-pub taken_left : (moment : ℤ) (message : Message) (olds news : List Room) (i : ℕ) (before mid : List ℕ) (d : Room) → TakenSofar moment message olds news i before mid → i < length news
-    → asks message (get_or (room_addresses olds) i []) ≡ false → TakenSofar moment message olds (set news i (get_or news i d)) (i + 1) before mid
-taken_left moment message olds news i before mid d so l none =
+pub taken_left : (moment : ℤ) (message : Message) (olds news : List Room) (i : ℕ) (before mid : List ℕ) (d : Room) (effects : Effects) → TakenSofar moment message olds news i before mid effects → i < length news
+    → asks message (get_or (room_addresses olds) i []) ≡ false → TakenSofar moment message olds (set news i (get_or news i d)) (i + 1) before mid effects
+taken_left moment message olds news i before mid d effects so l none =
     let l' : i < length olds = within_olds i (length olds) (length news) l so.long in
     let f : Room → List ℕ = λ room. address_octets room.address in
-    let here : get_or (room_addresses olds) i [] ≡ f (get_or news i d) = get_or-map f olds i d [] l' ∙ sym (ap f (next_as_was moment message olds news i before mid d so l)) in
-    taken_more moment message olds news i before mid mid d (get_or news i d) [] so l refl (left_out moment message (get_or news i d) (subst (λ a. asks message a ≡ false) here none)) (sym (append-nil mid))
+    let here : get_or (room_addresses olds) i [] ≡ f (get_or news i d) = get_or-map f olds i d [] l' ∙ sym (ap f (next_as_was moment message olds news i before mid d effects so l)) in
+    taken_more moment message olds news i before mid mid d (get_or news i d) [] machine.NotAddressed effects effects so l refl (left_out moment message (get_or news i d) (subst (λ a. asks message a ≡ false) here none)) (sym (append-nil mid)) (λ kinds are. passed_over kinds effects are)
 
 -- ---- the line for a refusal
 

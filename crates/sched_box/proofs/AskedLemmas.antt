@@ -23,6 +23,7 @@ use Rattle.profile.specs.rooms.Kept.{each_once}
 use Rattle.profile.specs.events.EventComponents.{EventComponent}
 use Rattle.profile.specs.events.Messages.{Message as Said}
 use Rattle.profile.specs.rooms.Messages.{Accept, is_addressed, is_part_for}
+use Rattle.profile.specs.rooms.Rooms.{IsStep, NotAddressed}
 use Rattle.profile.specs.series.Zones.{Zone}
 use Rattle.profile.specs.streams.Streams.{AreClaims, IsClaim}
 use Rattle.room_books.specs.declared.room.Room.{Room}
@@ -234,10 +235,12 @@ none_claimed room zone said off = record {
 }
 
 -- it takes no parts, and answers nothing
-pub left_out : (moment : ℤ) (message : Message) (room : Room) → asks message (address_octets room.address) ≡ false → RoomTakes moment message room room []
+pub left_out : (moment : ℤ) (message : Message) (room : Room) → asks message (address_octets room.address) ≡ false → RoomTakes moment message room room [] NotAddressed
 left_out moment message room none said represented before has =
     let a = address_octets room.address in
-    let off : is_addressed a said ≡ false = sym (addressed a message said represented) ∙ ap (λ b. is_to_rooms (method_said message.method) && b) none ∙ and-false _ in (
+    let off : is_addressed a said ≡ false = sym (addressed a message said represented) ∙ ap (λ b. is_to_rooms (method_said message.method) && b) none ∙ and-false _ in
+    let are = subst (λ r. AreClaims r before.zone said []) (sym has.at) (none_claimed a before.zone said off) in
+    let step : IsStep before.book [] moment Accept before.book = record { taken = sym (append-nil _); answers = sym (append-nil _); decided = λ some. absurd (false≢true some) } in (
       before,
       has,
       record {
@@ -245,9 +248,9 @@ left_out moment message room none said represented before has =
         sent = [];
         takes = record {
           claims = [];
-          are = subst (λ r. AreClaims r before.zone said []) (sym has.at) (none_claimed a before.zone said off);
+          are = are;
           outcome = Accept;
-          step = record { taken = sym (append-nil _); answers = sym (append-nil _); decided = λ some. absurd (false≢true some) };
+          step = step;
           reply = None;
           replies = refl;
           refresh = None;
@@ -256,4 +259,5 @@ left_out moment message room none said represented before has =
         };
         is = refl;
       },
+      record { claims = []; are = are; outcome = Accept; step = step; is = refl },
     )

@@ -9,6 +9,9 @@ use Rattle.itip_messages.specs.Message.{IsSpelled, RepresentsMessage}
 use Rattle.itip_messages.specs.declared.message.Message.{Message}
 use Rattle.profile.specs.events.Messages as profile
 use Rattle.profile.specs.events.Messages.{is_to_rooms}
+use Rattle.profile.specs.rooms.Rooms.{Kind}
+use Rattle.profile.specs.streams.Reports as reports
+use Rattle.profile.specs.streams.Reports.{Becomes, Fate, Taken, fate_of}
 use Rattle.profile.specs.streams.Streams.{HostedOrganiser, IsTaken, ObjectFault, StepsFor, refused_line}
 use Rattle.profile.specs.streams.Worlds as worlds
 use Rattle.profile.specs.streams.Worlds.{ChangesOne}
@@ -25,18 +28,20 @@ use Rattle.sched_box.proofs.AnswerLemmas.{all_take}
 goes_to : (message : Message) (said : profile.Message) (b : Bool) → RepresentsMessage message said → is_to_rooms (method_said message.method) ≡ b → is_to_rooms said.method ≡ b
 goes_to message said b represented to = sym (ap is_to_rooms represented.method) ∙ to
 
-pub rooms_taken : (moment : ℤ) (kept : List ℕ) (message : Message) (old new : Books) (octets : List ℕ)
-    → ((object : List ℕ) → kept ≡ kept_of object → IsSpelled object message) → is_to_rooms (method_said message.method) ≡ true → RoomsTake moment message old.rooms.rooms.items new.rooms.rooms.items octets
-    → new.organisers ≡ old.organisers → TakesKept moment kept old new octets
-rooms_taken moment kept message old new octets spelled to takes same object is before have =
+pub rooms_taken : (moment : ℤ) (kept : List ℕ) (message : Message) (old new : Books) (octets : List ℕ) (kinds : List Kind) (fate : Fate)
+    → ((object : List ℕ) → kept ≡ kept_of object → IsSpelled object message) → is_to_rooms (method_said message.method) ≡ true → RoomsTake moment message old.rooms.rooms.items new.rooms.rooms.items octets kinds
+    → fate ≡ fate_of kinds → new.organisers ≡ old.organisers → TakesKept moment kept old new octets fate
+rooms_taken moment kept message old new octets kinds fate spelled to takes fate_is same object is before have =
     let (said, spells, represented) = spelled object is in
-    let (after, hosted, all) = all_take moment message said represented old.rooms.rooms.items new.rooms.rooms.items octets takes before.rooms have.rooms in (
+    let (after, hosted, all, became) = all_take moment message said represented old.rooms.rooms.items new.rooms.rooms.items octets kinds takes before.rooms have.rooms in
+    let goes = sym (goes_to message said true represented to) in (
       record { rooms = after; organisers = before.organisers },
       record { rooms = hosted; organisers = subst (λ o. AreKeptBy o.organisers.items before.organisers) (sym same) have.organisers },
       (
         said,
         spells,
-        subst (λ b. StepsFor b moment said before (record { rooms = after; organisers = before.organisers }) octets) (sym (goes_to message said true represented to)) (all, refl),
+        subst (λ b. StepsFor b moment said before (record { rooms = after; organisers = before.organisers }) octets) goes (all, refl),
+        subst (λ b. Becomes b moment said before (record { rooms = after; organisers = before.organisers }) fate) goes (kinds, became, fate_is),
       ),
     )
 
@@ -56,17 +61,19 @@ one_taken moment said before after sent one = record {
 
 pub organiser_taken : (moment : ℤ) (kept : List ℕ) (message : Message) (old new : Books) (sent : List (List ℕ)) (octets : List ℕ)
     → ((object : List ℕ) → kept ≡ kept_of object → IsSpelled object message) → is_to_rooms (method_said message.method) ≡ false → OrganisersTake moment message old.organisers.organisers.items new.organisers.organisers.items sent
-    → new.rooms ≡ old.rooms → octets ≡ flat_map (λ object. object) sent → TakesKept moment kept old new octets
+    → new.rooms ≡ old.rooms → octets ≡ flat_map (λ object. object) sent → TakesKept moment kept old new octets Taken
 organiser_taken moment kept message old new sent octets spelled to takes same are object is before have =
     let (said, spells, represented) = spelled object is in
     let (after, hosted, one) = takes said represented before.organisers have.organisers in
-    let taken = subst (IsTaken moment said before.organisers after) (sym are) (one_taken moment said before.organisers after sent one) in (
+    let taken = subst (IsTaken moment said before.organisers after) (sym are) (one_taken moment said before.organisers after sent one) in
+    let goes = sym (goes_to message said false represented to) in (
       record { rooms = before.rooms; organisers = after },
       record { rooms = subst (λ r. AreHosted r.rooms.items before.rooms) (sym same) have.rooms; organisers = hosted },
       (
         said,
         spells,
-        subst (λ b. StepsFor b moment said before (record { rooms = before.rooms; organisers = after }) octets) (sym (goes_to message said false represented to)) (taken, refl),
+        subst (λ b. StepsFor b moment said before (record { rooms = before.rooms; organisers = after }) octets) goes (taken, refl),
+        subst (λ b. Becomes b moment said before (record { rooms = before.rooms; organisers = after }) Taken) goes refl,
       ),
     )
 
@@ -92,12 +99,12 @@ kept_on old new keep same box have =
 
 -- ---- what is answered
 
-pub answers_taken : (moment : ℤ) (k : ℕ) (kept : List ℕ) (old new : Books) (octets : List ℕ) → TakesKept moment kept old new octets → AnswersKept moment k kept old new octets 0
-answers_taken moment k kept old new octets takes object is before have =
-    let (after, hosted, (said, spells, steps)) = takes object is before have in
-    (after, hosted, inl (said, spells, steps, refl))
+pub answers_taken : (moment : ℤ) (k : ℕ) (kept : List ℕ) (old new : Books) (octets : List ℕ) (fate : Fate) → TakesKept moment kept old new octets fate → AnswersKept moment k kept old new octets fate
+answers_taken moment k kept old new octets fate takes object is before have =
+    let (after, hosted, taken) = takes object is before have in
+    (after, hosted, inl taken)
 
 pub answers_refused : (moment : ℤ) (k : ℕ) (kept : List ℕ) (n : ℕ) (old new : Books) (octets : List ℕ) → RefusesKept kept old n → KeepAll old new → octets ≡ refused_line k n
-    → AnswersKept moment k kept old new octets 1
+    → AnswersKept moment k kept old new octets (reports.Refused n)
 answers_refused moment k kept n old new octets refuses keep line object is before have =
     (before, keep before have, inr (n, refuses object is before have, refl, line, refl))

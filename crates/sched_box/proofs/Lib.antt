@@ -16,4 +16,5 @@ pub mod PreambleLemmas
 pub mod ScheduleLemmas
 pub mod ServingLemmas
 pub mod SettingLemmas
+pub mod ToldLemmas
 pub mod ZoneLemmas

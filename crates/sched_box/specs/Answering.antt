@@ -8,6 +8,8 @@ use Rattle.ical_values.specs.Octets.{address_octets}
 use Rattle.itip_messages.specs.Message.{RepresentsMessage}
 use Rattle.itip_messages.specs.declared.message.Message.{Message}
 use Rattle.profile.specs.events.Messages as profile
+use Rattle.profile.specs.rooms.Rooms.{Kind}
+use Rattle.profile.specs.streams.Reports.{BecomesThere}
 use Rattle.profile.specs.streams.Streams.{Hosted, Takes, TakesMessage, ZonedRoom, new_room}
 use Rattle.profile.specs.streams.Worlds as worlds
 use Rattle.profile.specs.streams.Worlds.{ChangesOne, rooms_once}
@@ -59,19 +61,19 @@ RoomsSend to moment message olds news sent =
     × (ChangesOne (worlds.RoomTakes to moment said sent) before after
     ⊎ ((list_any (λ host. bytes_eq host.address to) before ≡ false) × (after ≡ before) × (sent ≡ [])))
 
--- a room takes the message and answers these octets, from whatever it represents
-abbrev pub RoomTakes : ℤ → Message → Room → Room → List ℕ → Type 0
-RoomTakes moment message old new octets =
+-- a room takes the message and answers these octets, from whatever it represents, and this became of it there
+abbrev pub RoomTakes : ℤ → Message → Room → Room → List ℕ → Kind → Type 0
+RoomTakes moment message old new octets kind =
     (said : profile.Message) → RepresentsMessage message said → (before : Hosted) → IsHosted old before
-    → (after : Hosted) × IsHosted new after × Takes moment said before after octets
+    → (after : Hosted) × IsHosted new after × Takes moment said before after octets × BecomesThere moment said before after kind
 
--- each room takes it in turn; their answers follow one another
-abbrev pub RoomsTake : ℤ → Message → List Room → List Room → List ℕ → Type 0
-RoomsTake moment message [] [] octets = octets ≡ []
-RoomsTake moment message (old ∷ olds) (new ∷ news) octets =
-    (first : List ℕ) × (rest : List ℕ) × (octets ≡ first ++ rest) × (new.address ≡ old.address)
-    × RoomTakes moment message old new first × RoomsTake moment message olds news rest
-RoomsTake moment message _ _ octets = ⊥
+-- each room takes it in turn; their answers follow one another, and so does what became of it
+abbrev pub RoomsTake : ℤ → Message → List Room → List Room → List ℕ → List Kind → Type 0
+RoomsTake moment message [] [] octets kinds = (octets ≡ []) × (kinds ≡ [])
+RoomsTake moment message (old ∷ olds) (new ∷ news) octets kinds =
+    (first : List ℕ) × (rest : List ℕ) × (kind : Kind) × (others : List Kind) × (octets ≡ first ++ rest) × (kinds ≡ kind ∷ others)
+    × (new.address ≡ old.address) × RoomTakes moment message old new first kind × RoomsTake moment message olds news rest others
+RoomsTake moment message _ _ octets kinds = ⊥
 
 -- what is sent of an object, if there is one
 abbrev pub sent_octets : Option (List ℕ) → List ℕ

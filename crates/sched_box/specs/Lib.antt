@@ -6,6 +6,7 @@ pub mod Config
 pub mod Faults
 pub mod FileNames
 pub mod Meetings
+pub mod Journal
 pub mod Objects
 pub mod Organising
 pub mod Preamble

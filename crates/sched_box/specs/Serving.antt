@@ -3,6 +3,7 @@ use Rattle.std.specs.Prelude.{◌≡◌, ◌⊎◌, ℕ, ℤ, ◌+◌, ◌≤◌
 use Rattle.std.specs.Io.KnownBytes.{Appends, Keeps, IsAtEnd}
 use Rattle.profile.specs.text.Objects.{after_object}
 use Rattle.profile.specs.rooms.Kept.{IsKeptCalendar, IsKeptCertificate}
+use Rattle.profile.specs.streams.Reports.{AllAnswersAs, AllTold, Fate}
 use Rattle.profile.specs.streams.Streams.{BeginsWith, AreObjects, Answers, AllAnswers, AnswersStream, Box, Hosted, Config, new_box}
 use Rattle.sched_box.specs.declared.fault.ServeFault.{ServeFault}
 use Rattle.sched_box.specs.declared.fault.ServeFault.TheVariants.{Read, Write, TooLong, Memory}
@@ -157,3 +158,25 @@ StopsKeeping input left (Serve Read) = IsWithinBound input left
 StopsKeeping input left (Serve Write) = ⊥
 StopsKeeping input left (Serve TooLong) = HasRead 1_073_741_824 input left
 StopsKeeping input left (Serve Memory) = IsWithinBound input left
+
+-- ---- who is told of each object
+
+-- all objects were taken, and the answers to them written; each of them was told, with what became of it by these steps, and they were counted
+pub record TellsAll {Told : Type 0} (Tells : Told → ℕ → Fate → Told → Type 0) (old new : Told) (moment : ℤ) (before : Box) (ends : Ends) (report : ServeReport) : Type 0 where
+  pub objects : List (List ℕ)
+  pub after : Box
+  pub octets : List ℕ
+  pub fates : List Fate
+  pub are : IfSome ends.input (λ stream. AreObjects stream objects)
+  pub answers : AllAnswersAs moment 1 objects before after octets fates
+  pub written : Appends ends.output ends.written octets
+  pub told : AllTold Tells old 1 fates new
+  pub counted : report.objects ≡ length objects
+
+-- the same of a stream with its preamble
+pub record TellsStream {Told : Type 0} (Tells : Told → ℕ → Fate → Told → Type 0) (old new : Told) (ends : Ends) (report : ServeReport) : Type 0 where
+  pub moment : ℤ
+  pub hosts : Config
+  pub rest : Option (List ℕ)
+  pub opens : OpensStream ends.input rest moment hosts
+  pub tells : TellsAll Tells old new moment (new_box hosts) (record ends { input = rest }) report

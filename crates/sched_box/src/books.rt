@@ -9,6 +9,7 @@ ghost use Rattle.sched_box.specs.Objects.{kept_of};
 
 use crate::config::Config;
 use crate::fault::ServeFault;
+use crate::journal::Fate;
 use crate::objects::KEPT;
 use crate::organisers::Organisers;
 use crate::rooms::Rooms;
@@ -29,13 +30,14 @@ pub(crate) struct Books {
 }
 
 impl Books {
-    ghost use Rattle.std.specs.Prelude.{◌≡◌, ◌≤◌, ◌++◌, ℕ, List, Contains, IfOk, IfErr, IfSome, IsNone, OnOk};
+    ghost use Rattle.std.specs.Prelude.{◌≡◌, ◌++◌, ℕ, List, Contains, IfOk, IfErr, IfSome, IsNone};
     ghost use Rattle.ical_lines.specs.Fault.{RefusesBy};
     ghost use Rattle.ical_values.specs.Octets.{address_octets};
     ghost use Rattle.ical_values.specs.Refused.{IfRefused};
     ghost use Rattle.profile.specs.streams.Streams.{Box, new_box};
     ghost use Rattle.sched_box.specs.Books.{AnswersKept, AreBooksOf, KeepAll, RefusesKept, TakesKept, hosted_rooms};
     ghost use Rattle.sched_box.specs.Config.{config_hosts, config_rooms};
+    ghost use Rattle.sched_box.specs.Journal.{fate_said};
     ghost use Rattle.sched_box.specs.Organising.{organiser_addresses};
     ghost use Rattle.organiser_books.specs.Representation.{address_of};
 
@@ -71,47 +73,46 @@ impl Books {
         self.organisers.at(address)
     }
 
-    /// Takes one object, its number in the stream from 1, and appends the answers to it; how many refusals it is: 0 or 1.
+    /// Takes one object, its number in the stream from 1, and appends the answers to it. Gives what became of it.
     pub(crate) fn take(
         &mut self,
         octets: &[u8],
         number: u64,
         now: Stamp,
         answers: &mut Vec<u8>,
-    ) -> Result<u64, ServeFault>
-        ensures answers { IfOk result (λ refused. (more : List ℕ) × (answers.new.items ≡ answers.old.items ++ more)
-            × AnswersKept now number octets.now self.old self.new more refused) }
-        ensures count { IfOk result (λ refused. refused ≤ 1) }
+    ) -> Result<Fate, ServeFault>
+        ensures answers { IfOk result (λ fate. (more : List ℕ) × (answers.new.items ≡ answers.old.items ++ more)
+            × AnswersKept now number octets.now self.old self.new more (fate_said fate)) }
         ensures addresses { IfOk result (λ _. hosted_rooms self.new ≡ hosted_rooms self.old) }
         ensures memory { IfErr result (λ fault. fault ≡ ServeFault.Memory) }
     {
         match self.answer(octets, now, answers) {
-            Ok(()) => Ok(0),
+            Ok(fate) => Ok(fate),
             Err(Fault::Refused(refusal)) => {
                 write_refusal(number, refusal, answers)?;
-                Ok(1)
+                Ok(Fate::Refused(refusal))
             }
             Err(Fault::Memory) => Err(ServeFault::Memory),
         }
     }
 
-    /// Hands one object to the rooms or to the organiser, and appends what is answered.
+    /// Hands one object to the rooms or to the organiser, and appends what is answered. Gives what became of it.
     /// Refused, and then nothing has changed: as by `read_kept` and `Organisers::take`.
-    fn answer(&mut self, octets: &[u8], now: Stamp, answers: &mut Vec<u8>) -> Result<(), Fault>
-        ensures takes { OnOk result ((more : List ℕ) × (answers.new.items ≡ answers.old.items ++ more)
-            × TakesKept now octets.now self.old self.new more) }
+    fn answer(&mut self, octets: &[u8], now: Stamp, answers: &mut Vec<u8>) -> Result<Fate, Fault>
+        ensures takes { IfOk result (λ fate. (more : List ℕ) × (answers.new.items ≡ answers.old.items ++ more)
+            × TakesKept now octets.now self.old self.new more (fate_said fate)) }
         ensures fault { IfErr result (RefusesBy (RefusesKept octets.now self.old)) }
         ensures keeps { IfErr result (IfRefused (KeepAll self.old self.new × (answers.new.items ≡ answers.old.items))) }
         ensures addresses { hosted_rooms self.new ≡ hosted_rooms self.old }
     {
         let message = read_kept(self.alloc, octets)?;
         if message.method().is_to_rooms() {
-            self.rooms.take(self.alloc, &message, now, answers)?;
-            return Ok(());
+            let effects = self.rooms.take(self.alloc, &message, now, answers)?;
+            return Ok(effects.fate());
         }
         let sent = self.organisers.take(self.alloc, &message, now)?;
         append_each(&sent, answers)?;
-        Ok(())
+        Ok(Fate::Taken)
     }
 }
 

@@ -13,6 +13,7 @@ use crate::books::Books;
 use crate::config::Config;
 use crate::fault::ServeFault;
 use crate::file_names::MessageName;
+use crate::journal::{Journal, Nobody};
 use crate::objects::MOST_OCTETS;
 use crate::serving::serve_objects;
 use ical_values::Stamp;
@@ -148,11 +149,12 @@ fn messages_among(alloc: Global, names: Vec<String>) -> Result<Vec<MessageName>,
 }
 
 /// The answers to a message of the inbox, by books that keep what they took of the earlier ones.
-fn answers_of<I: Folder>(
+fn answers_of<I: Folder, J: Journal>(
     alloc: Global,
     inbox: &mut I,
     books: &mut Books,
     file: &MessageName,
+    journal: &mut J,
 ) -> Result<Vec<u8>, BoxFault>
     requires { I.is_known inbox.old ≡ true → IsMessageFile (I.image inbox.old) (file_of (I.image inbox.old) file.now) }
     ensures answers { IfOk result (λ answers. I.is_known inbox.old ≡ true → AnswersMessage (I.image inbox.old) file.now books.old books.new answers.items) }
@@ -163,15 +165,16 @@ fn answers_of<I: Folder>(
     ensures told { (IsErrOf result Device → ⊥) → I.failed inbox.new ≡ I.failed inbox.old }
 {
     let octets = inbox.read(alloc, file.name())?;
-    answers_to(alloc, books, &octets, file.moment())
+    answers_to(alloc, books, &octets, file.moment(), journal)
 }
 
 /// The answers to the objects of a stream, which are counted from 1.
-fn answers_to(
+fn answers_to<J: Journal>(
     alloc: Global,
     books: &mut Books,
     octets: &[u8],
     moment: Stamp,
+    journal: &mut J,
 ) -> Result<Vec<u8>, BoxFault>
     requires { length octets.now ≤ 1_073_741_824 }
     ensures answers { IfOk result (λ answers. AnswersOctets moment octets.now books.old books.new answers.items) }
@@ -186,6 +189,7 @@ fn answers_to(
         &mut answers,
         moment,
         MOST_OF_FILE,
+        journal,
     ) {
         Ok(_) => Ok(answers),
         Err(ServeFault::Memory) => Err(BoxFault::Memory),
@@ -286,13 +290,14 @@ fn publish_answers<O: Folder>(outbox: &mut O, name: &str, answers: &[u8]) -> Res
 }
 
 /// Answers these messages of the inbox, in turn.
-fn answer_all<I: Folder, O: Folder>(
+fn answer_all<I: Folder, O: Folder, J: Journal>(
     alloc: Global,
     inbox: &mut I,
     outbox: &mut O,
     books: &mut Books,
     files: &[MessageName],
     theirs: &[String],
+    journal: &mut J,
 ) -> Result<BoxReport, BoxFault>
     requires messages { I.is_known inbox.old ≡ true → AreMessageFiles (I.image inbox.old) (map (file_of (I.image inbox.old)) files.now) }
     requires apart { AreApart files.now }
@@ -311,11 +316,22 @@ fn answer_all<I: Folder, O: Folder>(
         written: 0,
     };
     for file in files {
-        let answers = answers_of(alloc, inbox, books, file)?;
+        journal.begin(file.name(), is_unanswered(alloc, theirs, file));
+        let answers = answers_of(alloc, inbox, books, file, journal)?;
         let is_new = settle(alloc, outbox, theirs, file, &answers)?;
         report = report.with_file(is_new);
     }
     Ok(report)
+}
+
+/// Whether the outbox hasn't the answers to a message yet; also where memory for their name is refused.
+fn is_unanswered(alloc: Global, theirs: &[String], file: &MessageName) -> bool
+    requires { AreRising (map string_bytes theirs.now) }
+{
+    match file.answer_name(alloc) {
+        Ok(name) => !is_among(theirs, name.as_str()),
+        Err(_) => true,
+    }
 }
 
 impl BoxReport {
@@ -354,9 +370,28 @@ pub fn run_box<I: Folder, O: Folder>(
         → Runs (I.image inbox.old) (config_hosts config.now) (record { start = O.image outbox.old; now = O.image outbox.new; first = O.moment outbox.old; last = O.moment outbox.new })
         (O.may_leave outbox.old) (O.may_leave outbox.new) (O.left_since outbox.new) result }
 {
+    run_box_telling(alloc, inbox, outbox, config, &mut Nobody)
+}
+
+/// The same, and tells of each object of each file what became of it, before the answers to the file are published.
+pub fn run_box_telling<I: Folder, O: Folder, J: Journal>(
+    alloc: Global,
+    inbox: &mut I,
+    outbox: &mut O,
+    config: &Config,
+    journal: &mut J,
+) -> Result<BoxReport, BoxFault>
+    ensures cause { IsErrOf result Device → HasRisen (I.failed inbox.old) (I.failed inbox.new) ⊎ HasRisen (O.failed outbox.old) (O.failed outbox.new) }
+    ensures told { (IsErrOf result Device → ⊥) → (I.failed inbox.new ≡ I.failed inbox.old) × (O.failed outbox.new ≡ O.failed outbox.old) }
+    ensures kept { IsKept I.is_known I.image I.temporary I.may_leave inbox.old inbox.new }
+    ensures goes_on { O.is_known outbox.old ≡ true → LosesNamesAlone (O.image outbox.old) (O.may_leave outbox.old) → LosesNamesAlone (O.image outbox.new) (O.may_leave outbox.new) }
+    ensures runs { I.is_known inbox.old ≡ true → O.is_known outbox.old ≡ true → LosesNamesAlone (O.image outbox.old) (O.may_leave outbox.old)
+        → Runs (I.image inbox.old) (config_hosts config.now) (record { start = O.image outbox.old; now = O.image outbox.new; first = O.moment outbox.old; last = O.moment outbox.new })
+        (O.may_leave outbox.old) (O.may_leave outbox.new) (O.left_since outbox.new) result }
+{
     sync_names(outbox)?;
     let files = message_files(alloc, inbox)?;
     let theirs = sorted_names(alloc, outbox)?;
     let mut books = Books::new(alloc, config)?;
-    answer_all(alloc, inbox, outbox, &mut books, &files, &theirs)
+    answer_all(alloc, inbox, outbox, &mut books, &files, &theirs, journal)
 }

@@ -7,6 +7,7 @@ mod directory;
 mod fault;
 pub mod file_names;
 pub mod folders;
+pub mod journal;
 pub mod meetings;
 pub mod objects;
 mod organisers;
@@ -19,12 +20,13 @@ mod settings;
 pub use config::Config;
 pub use fault::{ServeFault, StreamFault};
 pub use file_names::MessageName;
-pub use folders::{BoxFault, BoxReport, run_box};
+pub use folders::{BoxFault, BoxReport, run_box, run_box_telling};
+pub use journal::{Fate, Journal, Nobody};
 pub use meetings::shown_meetings;
 pub use preamble::read_preamble;
 pub use sched_devices::{
     DeviceReader, DeviceWriter, DiskFolder, Folder, FolderFault, Input, Output, WriteFault,
 };
 pub use schedules::{Step, World, play};
-pub use serving::{ServeReport, keep, serve, serve_stream};
+pub use serving::{ServeReport, keep, serve, serve_stream, serve_stream_telling};
 pub use settings::ZonedRoom;

@@ -13,6 +13,7 @@ ghost use Rattle.sched_devices.specs.Input.{IsFilledWithin};
 use crate::books::Books;
 use crate::config::Config;
 use crate::fault::StreamFault;
+use crate::journal::Nobody;
 use crate::objects::MOST_OCTETS;
 use crate::serving::{not_hosted, serve_objects};
 use ical_values::{Address, Stamp};
@@ -44,7 +45,15 @@ pub fn shown_meetings<R: Input>(
     }
     let mut books = Books::new(alloc, config)?;
     let mut nowhere = Nowhere;
-    serve_objects(alloc, &mut books, reader, &mut nowhere, now, MOST_OCTETS)?;
+    serve_objects(
+        alloc,
+        &mut books,
+        reader,
+        &mut nowhere,
+        now,
+        MOST_OCTETS,
+        &mut Nobody,
+    )?;
     let Some(kept) = books.organiser_at(organiser) else {
         return Err(not_hosted());
     };

@@ -7,18 +7,21 @@ ghost use Rattle.std.specs.Str.{bytes_eq};
 ghost use Rattle.ical_values.specs.Octets.{address_octets};
 ghost use Rattle.cal_events.specs.Component.{method_said};
 ghost use Rattle.profile.specs.events.Messages.{is_to_rooms};
+ghost use Rattle.profile.specs.rooms.Rooms.{Kind as SaidKind};
 ghost use Rattle.profile.specs.streams.Streams.{ZonedRoom as SaidRoom, new_room};
 ghost use Rattle.profile.specs.streams.Worlds.{rooms_once};
-ghost use Rattle.room_books.specs.Taking.{octets_in};
+ghost use Rattle.room_books.specs.Taking.{kind_view, octets_in};
 ghost use Rattle.sched_box.specs.Answering.{AreHosted, IsHosted, IsMade, RoomTakes, RoomsSend, RoomsTake, octets_each, room_addresses, sent_by, sent_octets};
 ghost use Rattle.sched_box.specs.Asked.{LeavesOut, asks, directory_addresses};
+ghost use Rattle.sched_box.specs.Journal.{AddsEffect, AreEffects};
 ghost use Rattle.sched_box.specs.Settings.{zoned_room};
 
 use crate::directory::Directory;
+use crate::journal::Effects;
 use crate::settings::ZonedRoom;
 use ical_values::{Address, Stamp};
 use itip_messages::Message;
-use room_books::{Answer, Room};
+use room_books::{Answer, Kind, Room};
 use std::alloc::{AllocError, Global};
 
 /// The rooms that a box hosts, each with all that it took.
@@ -52,16 +55,16 @@ impl Rooms {
         Some(&self.rooms[place])
     }
 
-    /// Hands a message to each room that it may be for, in turn, and appends what they answer.
+    /// Hands a message to each room that it may be for, in turn, and appends what they answer. Gives what became of it.
     pub(crate) fn take(
         &mut self,
         alloc: Global,
         message: &Message,
         now: Stamp,
         answers: &mut Vec<u8>,
-    ) -> Result<(), AllocError>
-        ensures takes { OnOk result ((more : List ℕ) × (answers.new.items ≡ answers.old.items ++ more)
-            × RoomsTake now message.now self.old.rooms.items self.new.rooms.items more) }
+    ) -> Result<Effects, AllocError>
+        ensures takes { IfOk result (λ effects. (more : List ℕ) × (kinds : List SaidKind) × (answers.new.items ≡ answers.old.items ++ more)
+            × RoomsTake now message.now self.old.rooms.items self.new.rooms.items more kinds × AreEffects kinds effects) }
         ensures addresses { room_addresses self.new.rooms.items ≡ room_addresses self.old.rooms.items }
     {
         let asked = self.directory.asked_by(alloc, message)?;
@@ -115,43 +118,66 @@ fn room_of(alloc: Global, host: &ZonedRoom) -> Result<Room, AllocError>
     Ok(Room::new(alloc, host.address.clone()?, host.zone))
 }
 
-/// Hands a message to each room that it may be for, in turn, and appends what it answers.
+/// Hands a message to each room that it may be for, in turn, and appends what it answers. Gives what became of it.
 fn take_all(
     rooms: &mut Vec<Room>,
     asked: &[bool],
     message: &Message,
     now: Stamp,
     answers: &mut Vec<u8>,
-) -> Result<(), AllocError>
+) -> Result<Effects, AllocError>
     requires long { length asked.now ≡ length rooms.old.items }
     requires out { LeavesOut (asks message.now) (room_addresses rooms.old.items) asked.now }
     ensures addresses { room_addresses rooms.new.items ≡ room_addresses rooms.old.items }
-    ensures takes { OnOk result ((more : List ℕ) × (answers.new.items ≡ answers.old.items ++ more)
-        × RoomsTake now message.now rooms.old.items rooms.new.items more) }
+    ensures takes { IfOk result (λ effects. (more : List ℕ) × (kinds : List SaidKind) × (answers.new.items ≡ answers.old.items ++ more)
+        × RoomsTake now message.now rooms.old.items rooms.new.items more kinds × AreEffects kinds effects) }
 {
+    let mut effects = Effects::none();
     for (place, room) in rooms.iter_mut().enumerate() {
         if asked[place] {
-            take_one(room, message, now, answers)?;
+            let next = take_next(room, message, now, answers, effects)?;
+            effects = next;
         }
     }
-    Ok(())
+    Ok(effects)
 }
 
-/// Hands a message to a room, and appends its reply and then its refresh.
+/// Hands a message to a room, appends what it answers, and adds what became of it to what became of it in other rooms.
+fn take_next(
+    room: &mut Room,
+    message: &Message,
+    now: Stamp,
+    answers: &mut Vec<u8>,
+    effects: Effects,
+) -> Result<Effects, AllocError>
+    ensures address { room.new.address ≡ room.old.address }
+    ensures takes { IfOk result (λ next. (more : List ℕ) × (kind : SaidKind) × (answers.new.items ≡ answers.old.items ++ more)
+        × RoomTakes now message.now room.old room.new more kind × AddsEffect effects kind next) }
+{
+    let kind = take_one(room, message, now, answers)?;
+    Ok(effects.with(&kind))
+}
+
+/// Hands a message to a room, and appends its reply and then its refresh. Gives what became of it.
 fn take_one(
     room: &mut Room,
     message: &Message,
     now: Stamp,
     answers: &mut Vec<u8>,
-) -> Result<(), AllocError>
+) -> Result<Kind, AllocError>
     ensures address { room.new.address ≡ room.old.address }
     ensures zone { room.new.zone ≡ room.old.zone }
-    ensures takes { OnOk result ((more : List ℕ) × (answers.new.items ≡ answers.old.items ++ more)
-        × RoomTakes now message.now room.old room.new more) }
+    ensures takes { IfOk result (λ kind. (more : List ℕ) × (answers.new.items ≡ answers.old.items ++ more)
+        × RoomTakes now message.now room.old room.new more (kind_view kind)) }
 {
-    let answer = room.take(message, now)?;
-    append(&answer.reply, answers)?;
-    append(&answer.refresh, answers)
+    let Answer {
+        kind,
+        reply,
+        refresh,
+    } = room.take(message, now)?;
+    append(&reply, answers)?;
+    append(&refresh, answers)?;
+    Ok(kind)
 }
 
 /// Appends an object, if there is one.

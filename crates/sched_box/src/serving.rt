@@ -11,11 +11,12 @@ ghost use Rattle.sched_box.specs.Config.{config_hosts, config_rooms};
 ghost use Rattle.sched_box.specs.Faults.{IfRefusedStream, IsRefusal, KeepsButRead, KeepsButWrite, RefusesPreamble, StopsFor, StreamKeepsButRead, StreamKeepsButWrite, StreamStopsFor};
 ghost use Rattle.sched_devices.specs.Input.{IsFilledWithin};
 ghost use Rattle.sched_box.specs.Sending.{StopsSending};
-ghost use Rattle.sched_box.specs.Serving.{AnswersWhole, BooksServe, KeepsTexts, Serves, ServesStream, StopsKeeping, StopsWithin};
+ghost use Rattle.sched_box.specs.Serving.{AnswersWhole, BooksServe, KeepsTexts, Serves, ServesStream, StopsKeeping, StopsWithin, TellsAll, TellsStream};
 
 use crate::books::Books;
 use crate::config::Config;
 use crate::fault::{ServeFault, StreamFault};
+use crate::journal::{Journal, Nobody};
 use crate::objects::{MOST_OCTETS, Objects};
 use crate::preamble::read_preamble;
 use ical_lines::Refusal;
@@ -48,8 +49,30 @@ pub fn serve_stream<R: Input, W: Output>(
     ensures fills { IsFilledWithin 3 (R.fills reader.old) (R.fills reader.new) (R.remaining reader.old) (R.remaining reader.new) }
     ensures whole { OnOk result (AnswersWhole (record { input = R.remaining reader.old; left = R.remaining reader.new; output = W.contents writer.old; written = W.contents writer.new })) }
 {
+    serve_stream_telling(alloc, reader, writer, &mut Nobody)
+}
+
+/// The same, and tells of each object what became of it, after its answers are written.
+pub fn serve_stream_telling<R: Input, W: Output, J: Journal>(
+    alloc: Global,
+    reader: &mut R,
+    writer: &mut W,
+    journal: &mut J,
+) -> Result<ServeReport, StreamFault>
+    ensures counts { IfOk result (λ report. report.refused ≤ report.objects) }
+    ensures refuses { IfErr result RefusesPreamble }
+    ensures cause { IfErr result (StreamStopsFor (R.has_failed reader.new) (W.has_failed writer.new)) }
+    ensures mark { OnOk result (R.has_failed reader.new ≡ R.has_failed reader.old) }
+    ensures told { IfErr result (StreamKeepsButRead (R.has_failed reader.old) (R.has_failed reader.new)) }
+    ensures sent { OnOk result (W.has_failed writer.new ≡ W.has_failed writer.old) }
+    ensures unsent { IfErr result (StreamKeepsButWrite (W.has_failed writer.old) (W.has_failed writer.new)) }
+    ensures serves { ServesStream (record { input = R.remaining reader.old; left = R.remaining reader.new; output = W.contents writer.old; written = W.contents writer.new }) result }
+    ensures fills { IsFilledWithin 3 (R.fills reader.old) (R.fills reader.new) (R.remaining reader.old) (R.remaining reader.new) }
+    ensures whole { OnOk result (AnswersWhole (record { input = R.remaining reader.old; left = R.remaining reader.new; output = W.contents writer.old; written = W.contents writer.new })) }
+    ensures tells { IfOk result (TellsStream J.tells journal.old journal.new (record { input = R.remaining reader.old; left = R.remaining reader.new; output = W.contents writer.old; written = W.contents writer.new })) }
+{
     let (config, now) = read_preamble(alloc, reader)?;
-    let report = serve(alloc, &config, reader, writer, now)?;
+    let report = serve_telling(alloc, &config, reader, writer, now, journal)?;
     Ok(report)
 }
 
@@ -75,8 +98,32 @@ pub fn serve<R: Input, W: Output>(
     ensures serves { Serves now (new_box (config_hosts config.now))
         (record { input = R.remaining reader.old; left = R.remaining reader.new; output = W.contents writer.old; written = W.contents writer.new }) result }
 {
+    serve_telling(alloc, config, reader, writer, now, &mut Nobody)
+}
+
+/// The same, and tells of each object what became of it.
+fn serve_telling<R: Input, W: Output, J: Journal>(
+    alloc: Global,
+    config: &Config,
+    reader: &mut R,
+    writer: &mut W,
+    now: Stamp,
+    journal: &mut J,
+) -> Result<ServeReport, ServeFault>
+    ensures counts { IfOk result (λ report. report.refused ≤ report.objects) }
+    ensures cause { IfErr result (StopsFor (R.has_failed reader.new) (W.has_failed writer.new)) }
+    ensures mark { OnOk result (R.has_failed reader.new ≡ R.has_failed reader.old) }
+    ensures told { IfErr result (KeepsButRead (R.has_failed reader.old) (R.has_failed reader.new)) }
+    ensures sent { OnOk result (W.has_failed writer.new ≡ W.has_failed writer.old) }
+    ensures unsent { IfErr result (KeepsButWrite (W.has_failed writer.old) (W.has_failed writer.new)) }
+    ensures fills { IsFilledWithin 2 (R.fills reader.old) (R.fills reader.new) (R.remaining reader.old) (R.remaining reader.new) }
+    ensures serves { Serves now (new_box (config_hosts config.now))
+        (record { input = R.remaining reader.old; left = R.remaining reader.new; output = W.contents writer.old; written = W.contents writer.new }) result }
+    ensures tells { IfOk result (TellsAll J.tells journal.old journal.new now (new_box (config_hosts config.now))
+        (record { input = R.remaining reader.old; left = R.remaining reader.new; output = W.contents writer.old; written = W.contents writer.new })) }
+{
     let mut books = Books::new(alloc, config)?;
-    serve_objects(alloc, &mut books, reader, writer, now, MOST_OCTETS)
+    serve_objects(alloc, &mut books, reader, writer, now, MOST_OCTETS, journal)
 }
 
 /// What a room keeps after the same objects: its calendar and its certificate, for which the checker says yes.
@@ -105,7 +152,15 @@ pub fn keep<R: Input>(
     }
     let mut books = Books::new(alloc, config)?;
     let mut nowhere = Nowhere;
-    serve_objects(alloc, &mut books, reader, &mut nowhere, now, MOST_OCTETS)?;
+    serve_objects(
+        alloc,
+        &mut books,
+        reader,
+        &mut nowhere,
+        now,
+        MOST_OCTETS,
+        &mut Nobody,
+    )?;
     let Some(kept) = books.room_at(room) else {
         return Err(not_hosted());
     };
@@ -125,14 +180,15 @@ pub(crate) fn not_hosted() -> StreamFault
     StreamFault::Refused(Refusal::BAD_PREAMBLE)
 }
 
-/// Serves the objects from whatever the books represent, of a stream of fewer octets than `most`, which is some.
-pub(crate) fn serve_objects<R: Input, W: Output>(
+/// Serves the objects from whatever the books represent, of a stream of fewer octets than `most`, which is some, and tells what became of each.
+pub(crate) fn serve_objects<R: Input, W: Output, J: Journal>(
     alloc: Global,
     books: &mut Books,
     reader: &mut R,
     writer: &mut W,
     now: Stamp,
     most: u64,
+    journal: &mut J,
 ) -> Result<ServeReport, ServeFault>
     requires { 0 < most }
     ensures counts { IfOk result (λ report. report.refused ≤ report.objects) }
@@ -146,6 +202,8 @@ pub(crate) fn serve_objects<R: Input, W: Output>(
     ensures bound { IfErr result (StopsWithin most (R.remaining reader.old) (R.remaining reader.new)) }
     ensures serves { (before : Box) → AreBooksOf books.old before → BooksServe most now before books.new
         (record { input = R.remaining reader.old; left = R.remaining reader.new; output = W.contents writer.old; written = W.contents writer.new }) result }
+    ensures tells { (before : Box) → AreBooksOf books.old before → IfOk result (TellsAll J.tells journal.old journal.new now before
+        (record { input = R.remaining reader.old; left = R.remaining reader.new; output = W.contents writer.old; written = W.contents writer.new })) }
 {
     let mut report = ServeReport {
         objects: 0,
@@ -156,11 +214,12 @@ pub(crate) fn serve_objects<R: Input, W: Output>(
     while objects.next_object(reader)? {
         let number = report.objects + 1;
         answers.clear();
-        let refused = books.take(objects.octets(), number, now, &mut answers)?;
+        let fate = books.take(objects.octets(), number, now, &mut answers)?;
         send(writer, answers.as_slice())?;
+        journal.tell(number, objects.octets(), fate);
         report = ServeReport {
             objects: number,
-            refused: report.refused + refused,
+            refused: report.refused + fate.refusals(),
         };
     }
     Ok(report)

@@ -3,7 +3,9 @@ use Rattle.std.proofs.Common.{◌≡◌, ◌∙◌, ap, refl, subst, inl, inr, �
 use Rattle.std.specs.Prelude.{None}
 use Rattle.profile.specs.doors.Adapting.{IsAdapted}
 use Rattle.sched_cli.specs.Diagnosis.{IsEnding, IsHelp, IsPlaceText, IsReason, place_text, way_text}
+use Rattle.sched_cli.specs.EventFlaws.{IsFlawIn, flaw_text}
 use Rattle.sched_cli.specs.InTheWay.{IsInTheWay}
+use Rattle.sched_cli.specs.declared.event_flaw.PlacedFlaw.{PlacedFlaw}
 use Rattle.sched_cli.specs.declared.refused_zone.InTheWay.{InTheWay}
 
 pub two_joined : (old one new a b : List ℕ) → one ≡ old ++ a → new ≡ one ++ b → new ≡ old ++ (a ++ b)
@@ -35,4 +37,10 @@ pub way_reason : (octets old one two three new : List ℕ) (n : ℕ) (way : InTh
     → (help : List ℕ) × IsHelp octets help × (new ≡ three ++ help) → (reason : List ℕ) × IsReason octets n reason × (new ≡ old ++ reason)
 way_reason octets old one two three new n way is e f g (help, helps, h) =
     let place = place_text way.place.line way.place.property.items in
-    (place ++ (codes "\n" ++ (way_text way ++ help)), inr (way, help, is, helps, refl), four_joined old one two three new place (codes "\n") (way_text way) help e f g h)
+    (place ++ (codes "\n" ++ (way_text way ++ help)), inr (inl (way, help, is, helps, refl)), four_joined old one two three new place (codes "\n") (way_text way) help e f g h)
+
+pub flaw_reason : (octets old one two new : List ℕ) (n : ℕ) (flaw : PlacedFlaw) → IsFlawIn octets flaw → one ≡ old ++ place_text flaw.place.line flaw.place.property.items → two ≡ one ++ codes "\n" → new ≡ two ++ flaw_text flaw
+    → (reason : List ℕ) × IsReason octets n reason × (new ≡ old ++ reason)
+flaw_reason octets old one two new n flaw is e f g =
+    let place = place_text flaw.place.line flaw.place.property.items in
+    (place ++ (codes "\n" ++ flaw_text flaw), inr (inr (flaw, is, refl)), three_joined old one two new place (codes "\n") (flaw_text flaw) e f g)

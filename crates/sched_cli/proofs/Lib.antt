@@ -12,4 +12,5 @@ pub mod RefusedLemmas
 pub mod RunningLemmas
 pub mod Saying
 pub mod Showing
+pub mod ShownLemmas
 pub mod Taken

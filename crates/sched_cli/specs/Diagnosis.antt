@@ -8,10 +8,12 @@ use Rattle.profile.specs.events.Messages.{Message, SpellsMessage, MessageTextFau
 use Rattle.ical_tree.specs.Reading.{ObjectHas}
 use Rattle.cal_events.specs.Component.{method_said}
 use Rattle.itip_messages.specs.declared.message.Message as itip
+use Rattle.sched_cli.specs.EventFlaws.{IsFlawIn, flaw_text}
 use Rattle.sched_cli.specs.Explained.{meaning_of}
 use Rattle.sched_cli.specs.InTheWay.{IsInTheWay}
 use Rattle.sched_cli.specs.Obstacles.{words_of}
 use Rattle.sched_cli.specs.Searching.{IsBlamedPlace}
+use Rattle.sched_cli.specs.declared.event_flaw.PlacedFlaw.{PlacedFlaw}
 use Rattle.sched_cli.specs.declared.place.Sought.TheVariants.{Fault}
 use Rattle.sched_cli.specs.declared.refused_zone.InTheWay.{InTheWay}
 
@@ -79,12 +81,14 @@ IsHelp octets text =
     × (text ≡ codes " `roombox adapt` makes an object of it that is " ++ ending))
 
 -- what is written behind the number: the place of the fault; or, where a VTIMEZONE has it, the place of what is in the way there, and a line that
--- tells what it is and what the door makes of the octets
+-- tells what it is and what the door makes of the octets; or, where a VEVENT lacks a property or has it twice, its place and a line that tells it
 abbrev pub IsReason : List ℕ → ℕ → List ℕ → Type 0
 IsReason octets n text =
     ((place : List ℕ) × IsPlaceText octets n place × (text ≡ place ++ codes "\n"))
-    ⊎ ((way : InTheWay) × (help : List ℕ) × IsInTheWay octets n way × IsHelp octets help
+    ⊎ (((way : InTheWay) × (help : List ℕ) × IsInTheWay octets n way × IsHelp octets help
     × (text ≡ place_text way.place.line way.place.property.items ++ (codes "\n" ++ (way_text way ++ help))))
+    ⊎ ((flaw : PlacedFlaw) × IsFlawIn octets flaw
+    × (text ≡ place_text flaw.place.line flaw.place.property.items ++ (codes "\n" ++ flaw_text flaw))))
 
 -- a line is the number and what it means, and then what to do
 abbrev pub IsMeaningOf : ℕ → List ℕ → Type 0

@@ -3,10 +3,12 @@ pub mod Agendas
 pub mod Blame
 pub mod Commands
 pub mod Diagnosis
+pub mod EventFlaws
 pub mod Explained
 pub mod Expanding
 pub mod InTheWay
 pub mod Meetings
+pub mod Logging
 pub mod Obstacles
 pub mod Places
 pub mod Reporting

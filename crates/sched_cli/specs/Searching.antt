@@ -1,5 +1,5 @@
 -- What a search through the content lines of an object has found.
-use Rattle.std.specs.Prelude.{◌≡◌, ◌<◌, ◌⊎◌, ℕ, Bool, true, IsTrue, List, [], length, codes, if◌then◌else◌}
+use Rattle.std.specs.Prelude.{◌≡◌, ◌<◌, ◌⊎◌, ◌||◌, ◌==◌, ℕ, Bool, true, IsTrue, List, [], length, codes, if◌then◌else◌}
 use Rattle.profile.specs.text.Lines.{line_name, line_value, text_has}
 use Rattle.profile.specs.events.Properties.{is_of}
 use Rattle.sched_cli.specs.Blame.{IsBlame}
@@ -27,11 +27,23 @@ HoldsIfCertain P blames.None = Unit {0}
 HoldsIfCertain P blames.Possible = ⊥
 HoldsIfCertain P blames.Certain = P
 
+-- the numbers of faults of how BEGIN and END pair up that one line has: an END, a BEGIN, or any line
+abbrev pub is_pairing : ℕ → Bool
+is_pairing n = n == 20 || n == 22 || n == 23
+
+abbrev pub can_misfit : ℕ → List ℕ → Bool
+can_misfit n line =
+    if n == 20 then is_of (codes "END") line
+    else (if n == 22 then is_of (codes "BEGIN") line
+    else n == 23)
+
 -- octets have this to do with what is sought: with the fault of a number, which they have as they are spelled, or as a content line of some
--- component; or they are the line that begins a component of a name, or the one of a text
+-- component, or as a line that needn't go with those before it; or they are the line that begins a component of a name, or the one of a text
 abbrev pub IsBlamed : Sought → List ℕ → blame.Blame → Type 0
 IsBlamed (Fault n) content blamed =
-    ((blamed ≡ blames.Certain) × IsTrue (text_has true n content)) ⊎ ((within : Within) × IsBlame n within content blamed)
+    ((blamed ≡ blames.Certain) × IsTrue (text_has true n content))
+    ⊎ (((within : Within) × IsBlame n within content blamed)
+    ⊎ (IsTrue (is_pairing n) × HoldsIfCertain (can_misfit n content ≡ true) blamed))
 IsBlamed (Begin spot name) content blamed = HoldsIfCertain (IsBeginOf name.now content) blamed
 IsBlamed (Text spot text) content blamed = HoldsIfCertain (content ≡ text.now) blamed
 

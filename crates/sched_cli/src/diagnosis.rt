@@ -4,8 +4,10 @@ ghost use Rattle.std.specs.Prelude.{◌≡◌, ◌≤◌, ◌++◌, ◌⊎◌, �
 ghost use Rattle.std.specs.Io.KnownBytes.{Appends, Keeps};
 ghost use Rattle.sched_cli.specs.Commands.{BlamesDevice, IsStatusSaid, TellsDevice};
 ghost use Rattle.sched_cli.specs.Diagnosis.{HasFault, IsEnding, IsHelp, IsMeaningOf, IsPlaceText, IsMessageText, IsReason, IsRefusedText, SaysRefused, SaysTaken, message_line, place_text, property_text, way_text};
+ghost use Rattle.sched_cli.specs.EventFlaws.{flaw_text, flaw_words};
 ghost use Rattle.sched_cli.specs.Explained.{is_explained};
 
+use crate::event_flaw::{FlawKind, PlacedFlaw, flaw_in_object};
 use crate::explain::explanation;
 use crate::place::{Place, Sought, place_of};
 use crate::refused_zone::{InTheWay, in_the_way};
@@ -104,13 +106,30 @@ fn append_reason(
     ensures { OnOk result ((reason : List ℕ) × IsReason octets.now number reason × (text.new.items ≡ text.old.items ++ reason)) }
 {
     let Some(found) = in_the_way(alloc, octets, number)? else {
-        append_blamed(alloc, text, octets, number)?;
-        return end_line(text);
+        return append_line(alloc, text, octets, number);
     };
     append_place(text, &found.place)?;
     end_line(text)?;
     append_way(text, &found)?;
     append_help(alloc, text, octets)
+}
+
+/// The same, where no VTIMEZONE is in the way: the place, and a line with what is wrong with a VEVENT's properties, if that is it.
+fn append_line(
+    alloc: Global,
+    text: &mut Vec<u8>,
+    octets: &[u8],
+    number: u8,
+) -> Result<(), AllocError>
+    ensures { OnOk result ((reason : List ℕ) × IsReason octets.now number reason × (text.new.items ≡ text.old.items ++ reason)) }
+{
+    let Some(found) = flaw_in_object(alloc, octets, number)? else {
+        append_blamed(alloc, text, octets, number)?;
+        return end_line(text);
+    };
+    append_place(text, &found.place)?;
+    end_line(text)?;
+    append_flaw(text, &found)
 }
 
 fn end_line(text: &mut Vec<u8>) -> Result<(), AllocError>
@@ -167,6 +186,43 @@ fn append_way(text: &mut Vec<u8>, found: &InTheWay) -> Result<(), AllocError>
     text.extend_from_slice(digits.format(found.begins).as_bytes())?;
     text.extend_from_slice(b": ")?;
     text.extend_from_slice(found.obstacle.words().as_bytes())?;
+    Ok(())
+}
+
+/// `VEVENT at line 4: it has no UID.`, as a line.
+fn append_flaw(text: &mut Vec<u8>, found: &PlacedFlaw) -> Result<(), AllocError>
+    ensures { OnOk result (text.new.items ≡ text.old.items ++ flaw_text found.now) }
+{
+    let mut digits = Buffer::new();
+    text.extend_from_slice(found.event.as_slice())?;
+    text.extend_from_slice(b" at line ")?;
+    text.extend_from_slice(digits.format(found.begins).as_bytes())?;
+    text.extend_from_slice(b": ")?;
+    append_flaw_words(text, found.kind, found.property.as_slice())
+}
+
+/// What is wrong with a property, in words that follow the place of the VEVENT.
+fn append_flaw_words(text: &mut Vec<u8>, kind: FlawKind, property: &[u8]) -> Result<(), AllocError>
+    ensures { OnOk result (text.new.items ≡ text.old.items ++ flaw_words kind property.now) }
+{
+    match kind {
+        FlawKind::Missing => append_around(text, b"it has no ", property, b".\n"),
+        FlawKind::Twice => append_around(text, b"", property, b" occurs twice in it.\n"),
+        FlawKind::Beside => append_around(text, b"", property, b" stands beside DTEND in it.\n"),
+    }
+}
+
+fn append_around(
+    text: &mut Vec<u8>,
+    before: &[u8],
+    word: &[u8],
+    behind: &[u8],
+) -> Result<(), AllocError>
+    ensures { OnOk result (text.new.items ≡ text.old.items ++ (before.now ++ (word.now ++ behind.now))) }
+{
+    text.extend_from_slice(before)?;
+    text.extend_from_slice(word)?;
+    text.extend_from_slice(behind)?;
     Ok(())
 }
 

@@ -42,19 +42,21 @@ pub fn explanation(number: u8) -> Option<&'static str>
         13 => Some("13: not a UTC offset, in a VTIMEZONE. What to do: fix the value.\n"),
         14 => Some("14: UID empty or past 1024 octets. What to do: give another UID.\n"),
         15 => Some(
-            "15: not an address (expected something like mailto:ann@example.com). What to do: fix the address.\n",
+            "15: not an address of at most 1024 octets (expected something like mailto:ann@example.com). What to do: fix the address; quote a parameter value that has a colon, as in CN=\"Room: 3\".\n",
         ),
         16 => Some("16: SEQUENCE not from 0 to 2147483647. What to do: fix the number.\n"),
-        20 => Some("20: END without its BEGIN. What to do: fix the nesting.\n"),
-        21 => Some("21: BEGIN without its END. What to do: fix the nesting.\n"),
+        20 => Some(
+            "20: an END of another component than the one that was begun last. What to do: end each component before the one around it; here an END, as END:VEVENT, or a BEGIN is missing.\n",
+        ),
+        21 => Some("21: BEGIN without its END. What to do: end each component that is begun.\n"),
         22 => Some("22: components more than 8 deep. What to do: flatten the object.\n"),
         23 => Some(
-            "23: no VCALENDAR, something outside it, or one inside it. What to do: send one VCALENDAR.\n",
+            "23: no VCALENDAR, something outside it, or one inside it. What to do: send one VCALENDAR, as the decoded text/calendar part of a mail is, without blanks at the ends of lines.\n",
         ),
         24 => Some("24: VERSION missing, twice or not 2.0. What to do: write VERSION:2.0 once.\n"),
         25 => Some("25: more than 200 VEVENTs. What to do: send several objects.\n"),
         30 => Some(
-            "30: a part of RRULE that is unknown or left out here (BYHOUR, RSCALE, ..), or FREQ below a day. What to do: leave it out.\n",
+            "30: a part of RRULE that is unknown, left out here (BYHOUR, RSCALE, ..) or empty, as behind a last `;`, or a FREQ other than DAILY, WEEKLY, MONTHLY and YEARLY. What to do: leave out the part or the `;`; give FREQ one of these four.\n",
         ),
         31 => Some(
             "31: a value of RRULE that is none, out of its range, or a list of more than 366. What to do: fix the value.\n",

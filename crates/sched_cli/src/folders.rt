@@ -1,13 +1,14 @@
 //! `box`: answers the files of one folder by files of another.
 
-ghost use Rattle.std.specs.Prelude.{◌≡◌, ◌⊎◌, true};
+ghost use Rattle.std.specs.Prelude.{◌≡◌, ◌⊎◌, None, true};
 ghost use Rattle.profile.specs.streams.Folders.{LosesNamesAlone};
 ghost use Rattle.sched_devices.specs.Folder.{IsKept};
 ghost use Rattle.sched_box.specs.Boxes.{HasRisen, Runs};
 ghost use Rattle.sched_cli.specs.Running.{RunsNone, RunsWith};
 
-use crate::status::{DONE, report_box, report_read};
-use sched_box::{Config, Folder, Output, run_box};
+use crate::log::Log;
+use crate::status::{DONE, report_box, report_read, report_write};
+use sched_box::{Config, Folder, Journal, Nobody, Output, run_box_telling};
 use std::alloc::Global;
 
 /// `box`: reads a configuration, and answers each file of the inbox by one of the outbox. Gives 0 where all are answered, 3 where the
@@ -30,12 +31,62 @@ pub fn run_folders<I: Folder, O: Folder, E: Output>(
         (O.may_leave outbox.old) (O.may_leave outbox.new) (O.left_since outbox.new) ended)
         (E.contents errors.old) (E.contents errors.new) (E.may_lose errors.new) }
 {
+    run_folders_telling(alloc, config, inbox, outbox, &mut Nobody, errors)
+}
+
+/// The same, and tells of each object what became of it.
+fn run_folders_telling<I: Folder, O: Folder, J: Journal, E: Output>(
+    alloc: Global,
+    config: &[u8],
+    inbox: &mut I,
+    outbox: &mut O,
+    journal: &mut J,
+    errors: &mut E,
+) -> u8
+    ensures status { (result ≡ 0) ⊎ (result ≡ 3) ⊎ (result ≡ 4) ⊎ (result ≡ 5) }
+    ensures device { result ≡ 4 → HasRisen (I.failed inbox.old) (I.failed inbox.new) ⊎ HasRisen (O.failed outbox.old) (O.failed outbox.new) }
+    ensures told { (result ≡ 4 → ⊥) → (I.failed inbox.new ≡ I.failed inbox.old) × (O.failed outbox.new ≡ O.failed outbox.old) }
+    ensures kept { IsKept I.is_known I.image I.temporary I.may_leave inbox.old inbox.new }
+    ensures runs { (RunsNone result config.now (E.contents errors.old) (E.contents errors.new) (E.may_lose errors.new) × (inbox.new ≡ inbox.old) × (outbox.new ≡ outbox.old))
+        ⊎ RunsWith result config.now
+        (λ hosts ended. I.is_known inbox.old ≡ true → O.is_known outbox.old ≡ true → LosesNamesAlone (O.image outbox.old) (O.may_leave outbox.old)
+        → Runs (I.image inbox.old) hosts (record { start = O.image outbox.old; now = O.image outbox.new; first = O.moment outbox.old; last = O.moment outbox.new })
+        (O.may_leave outbox.old) (O.may_leave outbox.new) (O.left_since outbox.new) ended)
+        (E.contents errors.old) (E.contents errors.new) (E.may_lose errors.new) }
+{
     let config = match Config::read(alloc, config) {
         Ok(config) => config,
         Err(fault) => return report_read(errors, fault),
     };
-    match run_box(alloc, inbox, outbox, &config) {
+    match run_box_telling(alloc, inbox, outbox, &config, journal) {
         Ok(_) => DONE,
         Err(fault) => report_box(errors, fault),
+    }
+}
+
+/// `box --report`: answers each file as `box` does, and says of each object that came to nothing, in a file that wasn't answered before, what
+/// became of it. Gives 4 where such a line wasn't written whole, and 5 where memory for one is refused; all is answered then.
+pub fn run_folders_report<I: Folder, O: Folder, L: Output, E: Output>(
+    alloc: Global,
+    config: &[u8],
+    inbox: &mut I,
+    outbox: &mut O,
+    log: &mut Log<L>,
+    errors: &mut E,
+) -> u8
+    ensures status { (result ≡ 0) ⊎ (result ≡ 3) ⊎ (result ≡ 4) ⊎ (result ≡ 5) }
+    ensures whole { result ≡ 0 → log.new.fault ≡ None }
+    ensures kept { IsKept I.is_known I.image I.temporary I.may_leave inbox.old inbox.new }
+    ensures runs { log.new.fault ≡ None → (RunsNone result config.now (E.contents errors.old) (E.contents errors.new) (E.may_lose errors.new) × (inbox.new ≡ inbox.old) × (outbox.new ≡ outbox.old))
+        ⊎ RunsWith result config.now
+        (λ hosts ended. I.is_known inbox.old ≡ true → O.is_known outbox.old ≡ true → LosesNamesAlone (O.image outbox.old) (O.may_leave outbox.old)
+        → Runs (I.image inbox.old) hosts (record { start = O.image outbox.old; now = O.image outbox.new; first = O.moment outbox.old; last = O.moment outbox.new })
+        (O.may_leave outbox.old) (O.may_leave outbox.new) (O.left_since outbox.new) ended)
+        (E.contents errors.old) (E.contents errors.new) (E.may_lose errors.new) }
+{
+    let status = run_folders_telling(alloc, config, inbox, outbox, log, errors);
+    match log.fault() {
+        Some(fault) if status == DONE => report_write(errors, fault),
+        _ => status,
     }
 }

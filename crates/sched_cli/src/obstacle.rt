@@ -362,7 +362,7 @@ fn first_named<'c, 'a>(components: &'c [Component<'a>], name: &str) -> Option<Pa
 }
 
 /// The first line of a property.
-fn first_line<'c>(part: &'c Component, name: &str) -> Option<Line<'c>>
+pub(crate) fn first_line<'c>(part: &'c Component, name: &str) -> Option<Line<'c>>
     ensures found { IfSome result (λ line. IsFirstLine name.now (component_lines part.now) (line_text line)) }
     ensures none { IfNone result (IsMissing name.now (component_lines part.now)) }
 {
@@ -371,7 +371,7 @@ fn first_line<'c>(part: &'c Component, name: &str) -> Option<Line<'c>>
 }
 
 /// The second one.
-fn second_line<'c>(part: &'c Component, name: &str) -> Option<Line<'c>>
+pub(crate) fn second_line<'c>(part: &'c Component, name: &str) -> Option<Line<'c>>
     ensures found { IfSome result (λ line. IsSecondLine name.now (component_lines part.now) (line_text line)) }
     ensures none { IfNone result (drop 1 (lines_named name.now (component_lines part.now)) ≡ []) }
 {

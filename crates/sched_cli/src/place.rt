@@ -1,11 +1,11 @@
 //! Where in an object the fault is that a refusal is about: the physical line on which a content line begins, and its property.
-//! A place is given only where it is known: the content line has that fault by itself, or is the only one that can have it. What is missing
-//! has no place, and what several lines have together has none.
+//! A place is given only where it is known: the content line has that fault by itself, or is the only one that can have it, or is the first that
+//! doesn't go with the components that are open. What is missing has no place, and what several lines have together has none.
 
 ghost use Rattle.std.specs.Prelude.{◌≡◌, ◌<◌, ◌^◌, ◌+◌, ◌++◌, ◌⊎◌, ℕ, List, length, drop, true, false, IfOk, IfSome, OnOk};
 ghost use Rattle.ical_lines.specs.Text.{line_text};
 ghost use Rattle.profile.specs.text.Lines.{is_continuation, line_name};
-ghost use Rattle.sched_cli.specs.Searching.{Finds, FoundIn, IsBeginOf, IsBlamed, IsBlamedPlace, NotesBlame, blame_if, with_possible};
+ghost use Rattle.sched_cli.specs.Searching.{Finds, FoundIn, IsBeginOf, IsBlamed, IsBlamedPlace, NotesBlame, blame_if, can_misfit, is_pairing, with_possible};
 
 use crate::blame::{Blame, Within, blame_of};
 use ical_lines::{Fault, Limits, Line, Unfolded, split_line, without_mark};
@@ -47,7 +47,7 @@ pub(crate) fn place_of(
 ) -> Result<Option<Place>, AllocError>
     ensures { IfOk result (λ found. IfSome found (λ place. IsBlamedPlace octets.now sought.entry place.line place.property.items)) }
 {
-    let mut search = Search::new(sought);
+    let mut search = Search::new(alloc, sought);
     let (first, mut left) = split_line(without_mark(octets));
     let mut begun = Begun::first(alloc, first)?;
     while let Some(rest) = left {
@@ -119,6 +119,10 @@ struct Search<'a> {
     sought: Sought<'a>,
     /// How many components have begun and not ended.
     depth: u64,
+    /// The names of those, the innermost last.
+    open: Vec<Vec<u8>>,
+    /// A line was looked at before.
+    is_begun: bool,
     /// What lines of the component at depth 2 are, and of its parts.
     inside: Inside,
     /// How many components have begun at depth 2.
@@ -136,6 +140,13 @@ fn is_fault(sought: Sought<'_>, number: u8) -> bool
         Sought::Fault(fault) => fault == number,
         Sought::Begin(_, _) | Sought::Text(_, _) => false,
     }
+}
+
+/// Whether a number is that of a fault of how BEGIN and END pair up that one line has.
+fn is_pairing(number: u8) -> bool
+    ensures { result ≡ is_pairing number }
+{
+    number == 20 || number == 22 || number == 23
 }
 
 /// Whether a line begins a component of this name.
@@ -177,13 +188,15 @@ enum Found {
 }
 
 impl<'a> Search<'a> {
-    fn new(sought: Sought<'a>) -> Search<'a>
+    fn new(alloc: Global, sought: Sought<'a>) -> Search<'a>
         ensures found { result.found ≡ Found.Nothing }
         ensures sought { result.sought ≡ sought.entry }
     {
         Search {
             sought,
             depth: 0,
+            open: Vec::new(alloc),
+            is_begun: false,
             inside: Inside::Other,
             outer: 0,
             inner: 0,
@@ -224,6 +237,7 @@ impl<'a> Search<'a> {
         let blame = self.blame(alloc, line)?;
         self.note(alloc, blame, line.name().as_bytes(), begun)?;
         self.pass(line);
+        self.pass_name(alloc, line)?;
         Ok(())
     }
 
@@ -232,10 +246,65 @@ impl<'a> Search<'a> {
         ensures { IfOk result (IsBlamed self.now.sought (line_text line.entry)) }
     {
         match self.sought {
-            Sought::Fault(number) => blame_of(alloc, number, self.within(), line),
+            Sought::Fault(number) => self.blame_fault(alloc, number, line),
             Sought::Begin(spot, name) => Ok(blame_if(self.begins(spot) && is_begin(line, name))),
             Sought::Text(spot, text) => Ok(blame_if(self.is_inside(spot) && line.text() == text)),
         }
+    }
+
+    /// What a line has to do with the fault of this number.
+    fn blame_fault(&self, alloc: Global, number: u8, line: Line<'_>) -> Result<Blame, AllocError>
+        ensures { IfOk result (IsBlamed (Sought.Fault number) (line_text line.entry)) }
+    {
+        if is_pairing(number) {
+            return Ok(blame_if(self.misfits(number, line)));
+        }
+        blame_of(alloc, number, self.within(), line)
+    }
+
+    /// Whether a line doesn't go with the components that are open (RFC 5545 3.4, 3.6).
+    fn misfits(&self, number: u8, line: Line<'_>) -> bool
+        ensures { result ≡ true → can_misfit number (line_text line.entry) ≡ true }
+    {
+        match number {
+            20 => line.is_named("END") && !self.is_innermost(line.value()),
+            22 => line.is_named("BEGIN") && self.open.len() >= 8,
+            23 => !self.may_stand(line),
+            _ => false,
+        }
+    }
+
+    /// Whether the component that was begun last, and hasn't ended, has this name.
+    fn is_innermost(&self, name: &str) -> bool {
+        match self.open.last() {
+            Some(open) => open.as_slice().eq_ignore_ascii_case(name.as_bytes()),
+            None => false,
+        }
+    }
+
+    /// Whether a line may stand here: a VCALENDAR begins first of all, and all else is inside it.
+    fn may_stand(&self, line: Line<'_>) -> bool {
+        let is_calendar = line.is_named("BEGIN") && line.value().eq_ignore_ascii_case("VCALENDAR");
+        if self.open.is_empty() {
+            return is_calendar && !self.is_begun || line.is_named("END");
+        }
+        !is_calendar
+    }
+
+    /// Notes the name of a component that a line begins, and drops that of one that it ends.
+    fn pass_name(&mut self, alloc: Global, line: Line<'_>) -> Result<(), AllocError>
+        ensures found { self.new.found ≡ self.old.found }
+        ensures sought { self.new.sought ≡ self.old.sought }
+    {
+        self.is_begun = true;
+        if line.is_named("BEGIN") {
+            let mut name = Vec::new(alloc);
+            name.extend_from_slice(line.value().as_bytes())?;
+            self.open.push(name)?;
+        } else if line.is_named("END") {
+            self.open.pop();
+        }
+        Ok(())
     }
 
     /// Whether a component is the next that may begin.

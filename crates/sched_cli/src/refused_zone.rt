@@ -58,7 +58,7 @@ pub(crate) fn in_the_way(
 }
 
 /// The lines of octets within the limits of a message. None where they aren't.
-fn text_of(alloc: Global, octets: &[u8]) -> Result<Option<Unfolded<'_>>, AllocError>
+pub(crate) fn text_of(alloc: Global, octets: &[u8]) -> Result<Option<Unfolded<'_>>, AllocError>
     ensures { IfOk result (λ found. IfSome found (λ text. text ≡ logical_lines octets.now)) }
 {
     match Unfolded::read(alloc, octets, Limits::Message) {
@@ -69,7 +69,10 @@ fn text_of(alloc: Global, octets: &[u8]) -> Result<Option<Unfolded<'_>>, AllocEr
 }
 
 /// The object that lines spell, within the limits of a message. None where they spell none.
-fn object_of<'a>(alloc: Global, text: &'a Unfolded<'_>) -> Result<Option<Component<'a>>, AllocError>
+pub(crate) fn object_of<'a>(
+    alloc: Global,
+    text: &'a Unfolded<'_>,
+) -> Result<Option<Component<'a>>, AllocError>
     ensures { IfOk result (λ found. IfSome found (λ object. IsObjectOf true object text.now)) }
 {
     match read_object(alloc, text, Limits::Message) {

@@ -1,11 +1,16 @@
 //! `serve --report`: counts the REFUSED lines as they are written, by their numbers.
 
-ghost use Rattle.std.specs.Prelude.{◌≡◌, ◌++◌, ℕ, List, OnOk};
-ghost use Rattle.sched_cli.specs.Commands.{BlamesDevice, TellsDevice};
+ghost use Rattle.std.specs.Prelude.{◌≡◌, ◌⊎◌, ◌++◌, ℕ, List, Some, None, true, OnOk};
+ghost use Rattle.sched_box.specs.Serving.{TellsStream};
+ghost use Rattle.sched_box.specs.declared.serving.ServeReport.{ServeReport as SaidReport};
+ghost use Rattle.sched_devices.specs.declared.output.WriteFault.TheVariants as write;
+ghost use Rattle.sched_cli.specs.Commands.{TellsDevice};
+ghost use Rattle.sched_cli.specs.Logging.{LogTells};
 ghost use Rattle.sched_cli.specs.Reporting.{IsReportLine, ReportsWith, SaysReport, objects_word};
 
-use crate::status::{DONE, report_memory, report_stream, say};
-use sched_box::{Input, Output, ServeReport, WriteFault, serve_stream};
+use crate::log::Log;
+use crate::status::{DEVICE, DONE, MEMORY, report_memory, report_stream, report_write};
+use sched_box::{Input, Output, ServeReport, WriteFault, serve_stream_telling};
 use std::alloc::Global;
 use std::io::{self, Write};
 
@@ -60,40 +65,68 @@ fn refusal_of(line: &[u8]) -> Option<u8> {
     number.parse::<u8>().ok()
 }
 
-/// `serve --report`: serves a stream as `serve` does, and says at its end how many objects it had, how many of them were refused, and with
-/// which numbers. Of a stream that ends early only the fault is said. Gives 5 where memory for the line is refused; all was written then.
-pub fn run_serve_report<R: Input, W: Output, E: Output>(
+/// `serve --report`: serves a stream as `serve` does, says of each object that came to nothing what became of it, and at its end how many objects
+/// it had, how many of them were refused, and with which numbers. Of a stream that ends early the fault is said in place of these counts.
+/// Gives 4 where a line wasn't written whole, and 5 where memory for one is refused; the answers were written then.
+pub fn run_serve_report<R: Input, W: Output, L: Output, E: Output>(
     alloc: Global,
     reader: &mut R,
     writer: &mut Tally<W>,
+    log: &mut Log<L>,
     errors: &mut E,
 ) -> u8
-    ensures device { BlamesDevice (R.has_failed reader.new) (W.has_failed writer.new.to) result }
     ensures told { TellsDevice result (R.has_failed reader.old) (R.has_failed reader.new) (W.has_failed writer.old.to) (W.has_failed writer.new.to) }
     ensures reports { ReportsWith result (record { input = R.remaining reader.old; left = R.remaining reader.new; output = W.contents writer.old.to; written = W.contents writer.new.to })
         (E.contents errors.old) (E.contents errors.new) (E.may_lose errors.new) }
+    ensures device { result ≡ 4 → (((R.has_failed reader.new ≡ true) ⊎ (W.has_failed writer.new.to ≡ true)) ⊎ ((log.new.fault ≡ Some write.Failed) ⊎ (E.has_failed errors.new ≡ true))) }
+    ensures whole { result ≡ 0 → log.new.fault ≡ None }
+    ensures tells { result ≡ 0 → (report : SaidReport) × TellsStream (λ old k fate new. (new.file.items ≡ old.file.items) × (new.is_quiet ≡ old.is_quiet)
+        × LogTells old.file.items old.is_quiet old.fault (L.contents old.to) k fate new.fault (L.contents new.to)) log.old log.new
+        (record { input = R.remaining reader.old; left = R.remaining reader.new; output = W.contents writer.old.to; written = W.contents writer.new.to }) report }
 {
-    match serve_stream(alloc, reader, writer) {
-        Ok(report) => say_report(alloc, errors, report, &writer.counts),
+    match serve_stream_telling(alloc, reader, writer, log) {
+        Ok(report) => end_report(alloc, log.fault(), errors, report, &writer.counts),
         Err(fault) => report_stream(errors, fault),
     }
 }
 
-/// Says the line of a report, and gives 0; 5 where memory for it is refused.
+/// Says what is to be said at the end of a stream that was served: the line of counts, or that a line before it wasn't written whole.
+fn end_report<E: Output>(
+    alloc: Global,
+    fault: Option<WriteFault>,
+    errors: &mut E,
+    report: ServeReport,
+    counts: &[u64; 256],
+) -> u8
+    ensures says { SaysReport report result (E.contents errors.old) (E.contents errors.new) (E.may_lose errors.new) }
+    ensures whole { result ≡ 0 → fault ≡ None }
+    ensures device { result ≡ 4 → (fault ≡ Some write.Failed) ⊎ (E.has_failed errors.new ≡ true) }
+{
+    match fault {
+        None => say_report(alloc, errors, report, counts),
+        Some(fault) => report_write(errors, fault),
+    }
+}
+
+/// Says the line of a report, and gives 0; 4 where it isn't written whole, 5 where memory for it is refused.
 fn say_report<E: Output>(
     alloc: Global,
     errors: &mut E,
     report: ServeReport,
     counts: &[u64; 256],
 ) -> u8
-    ensures { SaysReport report result (E.contents errors.old) (E.contents errors.new) (E.may_lose errors.new) }
+    ensures says { SaysReport report result (E.contents errors.old) (E.contents errors.new) (E.may_lose errors.new) }
+    ensures device { result ≡ 4 → E.has_failed errors.new ≡ true }
 {
     let mut line = Vec::new(alloc);
     let Ok(()) = append_report(&mut line, report, counts) else {
         return report_memory(errors);
     };
-    say(errors, line.as_slice());
-    DONE
+    match errors.put(line.as_slice()) {
+        Ok(()) => DONE,
+        Err(WriteFault::Failed) => DEVICE,
+        Err(WriteFault::Memory) => MEMORY,
+    }
 }
 
 /// `roombox: 10 objects, 3 refused (43: 2, 61: 1)`, as a line.

@@ -1,12 +1,8 @@
 use Rattle.std.proofs.Common.{IfSome, subst}
 use Rattle.sched_cli.specs.InTheWay.{IsInTheWay}
-use Rattle.sched_cli.proofs.DiagnosisLemmas.{blamed_reason, way_reason}
+use Rattle.sched_cli.proofs.DiagnosisLemmas.{way_reason}
 use Rattle.sched_cli.proofs.PlaceLemmas.{on_ok}
 use Rattle.sched_cli.proofs.diagnosis.append_reason.Goals as goal
-
-pub returns-in_default : goal.returns-in_default
-returns-in_default c =
-    on_ok c.end_line.result _ _ (λ f. blamed_reason c.args.octets.now _ _ _ c.args.number c.in_ok-append_blamed.ensures f) c.end_line.ensures
 
 pub returns : goal.returns
 returns c =

@@ -5,6 +5,7 @@ use Rattle.std.proofs.lemmas.Result.{err_from_is_err_and}
 use Rattle.profile.specs.events.Messages.{is_to_rooms}
 use Rattle.cal_events.specs.Component.{method_said}
 use Rattle.sched_box.specs.Answering.{octets_each}
+use Rattle.sched_box.specs.Journal.{fate_said}
 use Rattle.sched_box.proofs.BookLemmas.{organiser_taken, rooms_taken, unhosted, unread}
 use Rattle.sched_box.proofs.books.Books.answer.Goals as goal
 
@@ -17,8 +18,8 @@ pub returns-then-is_to_rooms-clause-takes : goal.returns-then-is_to_rooms-clause
 returns-then-is_to_rooms-clause-takes c =
     let message = c.in_ok-message.message in
     let to : is_to_rooms (method_said message.method) ≡ true = ap (λ m. is_to_rooms (method_said m)) (sym c.method.ensures) ∙ sym c.is_to_rooms.ensures ∙ c.if-is_to_rooms.true in
-    let (more, is, takes) = c.in_ok-take.ensures.takes in
-    (more, is, rooms_taken c.args.now c.args.octets.now message c.args.self.now _ more c.in_ok-message.ensures.spells to takes refl)
+    let (more, kinds, is, takes, are) = c.in_ok-effects.ensures.takes in
+    (more, is, rooms_taken c.args.now c.args.octets.now message c.args.self.now _ more kinds (fate_said c.fate.result) c.in_ok-message.ensures.spells to takes (c.fate.ensures kinds are) refl)
 
 pub returns-in_err-sent-clause-fault : goal.returns-in_err-sent-clause-fault
 returns-in_err-sent-clause-fault c =

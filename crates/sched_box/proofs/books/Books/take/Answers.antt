@@ -3,13 +3,14 @@ use Rattle.ical_lines.specs.Fault.{RefusesBy}
 use Rattle.ical_values.specs.Refused.{IfRefused}
 use Rattle.profile.specs.streams.Streams.{refused_line}
 use Rattle.sched_box.specs.Books.{KeepAll, RefusesKept}
+use Rattle.sched_box.specs.Journal.{fate_said}
 use Rattle.sched_box.proofs.BookLemmas.{answers_refused, answers_taken}
 use Rattle.sched_box.proofs.books.Books.take.Goals as goal
 
 pub returns-in-Ok-clause-answers : goal.returns-in-Ok-clause-answers
 returns-in-Ok-clause-answers c =
     let (more, is, takes) = c.in-Ok.ensures.takes in
-    (more, is, answers_taken c.args.now c.args.number c.args.octets.now c.args.self.now c.answer.new.self more takes)
+    (more, is, answers_taken c.args.now c.args.number c.args.octets.now c.args.self.now c.answer.new.self more (fate_said c.in-Ok.fate) takes)
 
 pub returns-in_ok-write_refusal-in-Err-Refused-clause-answers : goal.returns-in_ok-write_refusal-in-Err-Refused-clause-answers
 returns-in_ok-write_refusal-in-Err-Refused-clause-answers c =

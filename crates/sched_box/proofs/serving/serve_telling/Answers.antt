@@ -2,7 +2,7 @@ use Rattle.std.proofs.lemmas.Result.{err_from_is_err_and}
 use Rattle.profile.specs.streams.Streams.{new_box}
 use Rattle.sched_box.specs.Config.{config_hosts}
 use Rattle.sched_box.proofs.ServingLemmas.{filled_none, serves_from, serves_none}
-use Rattle.sched_box.proofs.serving.serve.Goals as goal
+use Rattle.sched_box.proofs.serving.serve_telling.Goals as goal
 
 pub returns-in_err-books-clause-serves : goal.returns-in_err-books-clause-serves
 returns-in_err-books-clause-serves g c =
@@ -16,3 +16,6 @@ returns-clause-serves g c =
 
 pub returns-in_err-books-clause-fills : goal.returns-in_err-books-clause-fills
 returns-in_err-books-clause-fills g c = filled_none 2 _ _
+
+pub returns-clause-tells : goal.returns-clause-tells
+returns-clause-tells g c = c.serve_objects.ensures.tells (new_box (config_hosts c.args.config.now)) c.in_ok-books.ensures.kept

@@ -5,7 +5,7 @@ use Rattle.sched_box.specs.Config.{config_hosts}
 use Rattle.sched_box.specs.Running.{LeavesHeld, file_of}
 use Rattle.sched_box.specs.declared.file_names.MessageName.{MessageName}
 use Rattle.sched_box.proofs.FolderLemmas.{leaves_synced, run_over, stops_between}
-use Rattle.sched_box.proofs.folders.run_box.Goals as goal
+use Rattle.sched_box.proofs.folders.run_box_telling.Goals as goal
 
 pub returns-clause-runs : goal.returns-clause-runs
 returns-clause-runs g c = λ in_known out_known loses.

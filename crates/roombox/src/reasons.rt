@@ -1,0 +1,247 @@
+//! Why a device failed and what of a preamble can't be read: lines behind `roombox: device` and `roombox: refused 90`.
+
+use crate::host::ErrorPrinter;
+use ical_values::Address;
+use sched_box::config::LONGEST;
+use sched_box::{Config, DeviceWriter, Output};
+use sched_cli::preamble::{Front, append_name, append_preamble_fault, preamble_in};
+use sched_cli::status::{DEVICE, REFUSED};
+use std::alloc::{AllocError, Global};
+use std::fs;
+use std::io::{self, ErrorKind, Read, Write};
+use std::rt::Runtime;
+
+/// A reader that remembers its first octets, as many as a preamble may have and one more, and why it failed.
+#[derive(Drop)]
+pub(crate) struct WatchedReader<R: Read + Drop> {
+    device: R,
+    front: Vec<u8>,
+    kind: Option<ErrorKind>,
+}
+
+impl<R: Read + Drop> WatchedReader<R> {
+    /// A reader of which nothing was read yet. All that it remembers has its memory from now on.
+    pub(crate) fn new(alloc: Global, device: R) -> Result<WatchedReader<R>, AllocError> {
+        Ok(WatchedReader {
+            device,
+            front: Vec::with_capacity(alloc, LONGEST + 1)?,
+            kind: None,
+        })
+    }
+
+    pub(crate) fn kind(&self) -> Option<ErrorKind> {
+        self.kind
+    }
+
+    pub(crate) fn front(&self) -> &[u8] {
+        self.front.as_slice()
+    }
+}
+
+impl<R: Read + Drop> Read for WatchedReader<R> {
+    fn read(&mut self, buffer: &mut [u8]) -> io::Result<usize> {
+        match self.device.read(buffer) {
+            Ok(count) => {
+                // an interrupted call that was tried again is no failure
+                self.kind = None;
+                let room = (LONGEST + 1).saturating_sub(self.front.len());
+                // there is room for it
+                let _ = self.front.extend_from_slice(&buffer[..count.min(room)]);
+                Ok(count)
+            }
+            Err(error) => {
+                self.kind = Some(error.kind());
+                Err(error)
+            }
+        }
+    }
+}
+
+/// A writer that remembers why it failed.
+#[derive(Drop)]
+pub(crate) struct WatchedWriter<W: Write + Drop> {
+    device: W,
+    kind: Option<ErrorKind>,
+}
+
+impl<W: Write + Drop> WatchedWriter<W> {
+    pub(crate) fn new(device: W) -> WatchedWriter<W> {
+        WatchedWriter { device, kind: None }
+    }
+
+    pub(crate) fn kind(&self) -> Option<ErrorKind> {
+        self.kind
+    }
+}
+
+impl<W: Write + Drop> Write for WatchedWriter<W> {
+    fn write(&mut self, octets: &[u8]) -> io::Result<usize> {
+        match self.device.write(octets) {
+            Ok(count) => {
+                self.kind = None;
+                Ok(count)
+            }
+            Err(error) => {
+                self.kind = Some(error.kind());
+                Err(error)
+            }
+        }
+    }
+
+    fn flush(&mut self) -> io::Result<()> {
+        match self.device.flush() {
+            Ok(()) => Ok(()),
+            Err(error) => {
+                self.kind = Some(error.kind());
+                Err(error)
+            }
+        }
+    }
+}
+
+/// Says why a device of this name failed.
+pub(crate) fn say_device<R: Runtime + AllocGlobal>(
+    rt: &R,
+    alloc: Global,
+    name: &str,
+    kind: ErrorKind,
+) {
+    // Where memory for the line is refused it isn't said; where standard error fails, nobody is left to be told.
+    if let Ok(line) = device_line(alloc, name, kind) {
+        let _ = DeviceWriter::new(ErrorPrinter { to: rt }).put(line.as_slice());
+    }
+}
+
+fn device_line(alloc: Global, name: &str, kind: ErrorKind) -> Result<Vec<u8>, AllocError> {
+    let mut line = Vec::new(alloc);
+    line.extend_from_slice(b"roombox: ")?;
+    append_name(&mut line, name)?;
+    line.extend_from_slice(b": ")?;
+    line.extend_from_slice(words_of(kind).as_bytes())?;
+    line.extend_from_slice(b"\n")?;
+    Ok(line)
+}
+
+/// Why a device failed, in words that follow its name.
+fn words_of(kind: ErrorKind) -> &'static str {
+    match kind {
+        ErrorKind::NotFound => "it isn't there",
+        ErrorKind::PermissionDenied => "permission is denied",
+        ErrorKind::IsADirectory => "it is a folder",
+        ErrorKind::NotADirectory => "it isn't in a folder, or is none",
+        ErrorKind::StorageFull | ErrorKind::QuotaExceeded => "no space is left",
+        ErrorKind::ReadOnlyFilesystem => "it may not be written to",
+        ErrorKind::BrokenPipe => "nobody reads it any more",
+        _ => "it can't be used",
+    }
+}
+
+/// Says behind the end of a command, where its status is that of a device, why its output failed. Gives the status.
+pub(crate) fn say_output<R: Runtime + AllocGlobal>(
+    rt: &R,
+    alloc: Global,
+    status: u8,
+    output: Option<ErrorKind>,
+) -> u8 {
+    if status == DEVICE {
+        if let Some(kind) = output {
+            say_device(rt, alloc, "standard output", kind);
+        }
+    }
+    status
+}
+
+/// The same of a command that reads a stream; and where the stream's preamble is refused, or doesn't name the room that is asked for, why.
+pub(crate) fn say_reasons<R: Runtime + AllocGlobal, D: Read + Drop>(
+    rt: &R,
+    alloc: Global,
+    status: u8,
+    input: &WatchedReader<D>,
+    output: Option<ErrorKind>,
+    wanted: Wanted<'_>,
+) -> u8 {
+    if status == DEVICE {
+        if let Some(kind) = input.kind() {
+            say_device(rt, alloc, "standard input", kind);
+        }
+    }
+    if status == REFUSED {
+        if let Ok(line) = refused_line(alloc, input.front(), Front::Stream, wanted) {
+            let _ = DeviceWriter::new(ErrorPrinter { to: rt }).put(line.as_slice());
+        }
+    }
+    say_output(rt, alloc, status, output)
+}
+
+/// Whom of its preamble a command is about.
+#[derive(Clone, Copy)]
+pub(crate) enum Wanted<'a> {
+    All,
+    Room(&'a Address),
+    Organiser(&'a Address),
+}
+
+/// Says of a configuration that is refused why, behind the end of `box`. Gives the status.
+pub(crate) fn say_configuration<R: Runtime + AllocGlobal>(
+    rt: &R,
+    alloc: Global,
+    status: u8,
+    octets: &[u8],
+) -> u8 {
+    if status == REFUSED {
+        if let Ok(line) = refused_line(alloc, octets, Front::Configuration, Wanted::All) {
+            let _ = DeviceWriter::new(ErrorPrinter { to: rt }).put(line.as_slice());
+        }
+    }
+    status
+}
+
+/// What of the front of a stream, or of a configuration, can't be read; else that it doesn't name who is wanted; nothing where it does.
+fn refused_line(
+    alloc: Global,
+    octets: &[u8],
+    front: Front,
+    wanted: Wanted<'_>,
+) -> Result<Vec<u8>, AllocError> {
+    let mut line = Vec::new(alloc);
+    append_preamble_fault(alloc, &mut line, octets, front)?;
+    if !line.is_empty() {
+        return Ok(line);
+    }
+    if let Ok((config, _)) = Config::read_with_now(alloc, preamble_in(octets)) {
+        append_unnamed(&mut line, &config, wanted)?;
+    }
+    Ok(line)
+}
+
+/// Appends that a preamble doesn't name who is wanted, if it doesn't.
+fn append_unnamed(
+    line: &mut Vec<u8>,
+    config: &Config,
+    wanted: Wanted<'_>,
+) -> Result<(), AllocError> {
+    let (is_named, who, address) = match wanted {
+        Wanted::All => return Ok(()),
+        Wanted::Room(room) => (config.has_room(room), "room", room),
+        Wanted::Organiser(organiser) => {
+            (config.has_organiser(organiser), "organiser", organiser)
+        }
+    };
+    if is_named {
+        return Ok(());
+    }
+    line.extend_from_slice(b"roombox: the preamble doesn't name the ")?;
+    line.extend_from_slice(who.as_bytes())?;
+    line.extend_from_slice(b" ")?;
+    append_name(line, address.as_str())?;
+    line.extend_from_slice(b"\n")?;
+    Ok(())
+}
+
+/// Says why a folder of this path can't be listed, if it can't. Gives the status.
+pub(crate) fn say_folder<R: Runtime + AllocGlobal>(rt: &R, alloc: Global, path: &str) {
+    match fs::read_dir(rt, path) {
+        Ok(_) => say_device(rt, alloc, path, ErrorKind::Other),
+        Err(error) => say_device(rt, alloc, path, error.kind()),
+    }
+}

@@ -1,0 +1,169 @@
+//! What became of each object of a stream, and who is told of it.
+
+ghost use Rattle.std.specs.Prelude.{◌≡◌, ◌∷◌, ◌++◌, ◌||◌, ℕ, List, []};
+ghost use Rattle.profile.specs.rooms.Rooms.{Kind as SaidKind};
+ghost use Rattle.profile.specs.streams.Reports.{Fate as SaidFate, fate_of, is_change, is_repeat, is_stale, refusals};
+ghost use Rattle.room_books.specs.Taking.{kind_view};
+ghost use Rattle.sched_box.specs.Journal.{AreEffects, fate_said};
+
+use ical_lines::Refusal;
+use room_books::Kind;
+
+/// What became of an object.
+#[derive(Clone, Copy, Debug, PartialEq, Eq)]
+pub enum Fate {
+    /// It is refused.
+    Refused(Refusal),
+    /// No room of the box has a part in it.
+    Unreached,
+    /// All that it says is older than what the rooms know.
+    Stale,
+    /// Nothing in it is new, and some of it is what a room knows already.
+    Repeated,
+    /// A room decided or cancelled something, or an organiser took it.
+    Taken,
+}
+
+impl Fate {
+    /// How many refusals that is: 0 or 1.
+    pub fn refusals(self) -> u64
+        ensures { result ≡ refusals (fate_said self) }
+    {
+        match self {
+            Fate::Refused(_) => 1,
+            Fate::Unreached | Fate::Stale | Fate::Repeated | Fate::Taken => 0,
+        }
+    }
+}
+
+/// One who is told of each object what became of it, after its answers are written. A call can't fail: who keeps what it is told says later
+/// whether that went well.
+pub trait Journal {
+    // One call leads from the value before to the value after: of the object of this number this is told.
+    ghost tells: { Self → ℕ → SaidFate → Self → Type 0 };
+
+    /// The objects of the file of this name come next, counted from 1: those of one that wasn't answered before, or of one that was.
+    fn begin(&mut self, name: &str, is_new: bool);
+
+    /// What became of the object of this number, which is these octets: its first 1,048,577 at most.
+    fn tell(&mut self, number: u64, octets: &[u8], fate: Fate)
+        ensures { Self.tells self.old number (fate_said fate) self.new };
+}
+
+/// Nobody is told.
+#[derive(Drop)]
+pub struct Nobody;
+
+impl Journal for Nobody {
+    ghost tells = { λ _ _ _ _. Unit {0} };
+
+    fn begin(&mut self, _name: &str, _is_new: bool) {}
+
+    fn tell(&mut self, _number: u64, _octets: &[u8], _fate: Fate) {}
+}
+
+/// What became of a message in some rooms.
+#[derive(Clone, Copy)]
+pub(crate) struct Effects {
+    /// One of them has decided or cancelled something.
+    changed: bool,
+    /// One knows some of it already, and nothing in it is new there.
+    repeated: bool,
+    /// To one all of it is older than what that knows.
+    stale: bool,
+}
+
+impl Effects {
+    ghost use Rattle.std.specs.Prelude.{◌≡◌, ◌∷◌, ◌++◌, List, []};
+    ghost use Rattle.profile.specs.rooms.Rooms.{Kind as SaidKind};
+    ghost use Rattle.profile.specs.streams.Reports.{fate_of};
+    ghost use Rattle.room_books.specs.Taking.{kind_view};
+    ghost use Rattle.sched_box.specs.Journal.{AreEffects, fate_said};
+
+    /// Those in no room.
+    pub(crate) fn none() -> Effects
+        ensures { AreEffects [] result }
+    {
+        Effects {
+            changed: false,
+            repeated: false,
+            stale: false,
+        }
+    }
+
+    /// Those in one room more, where this became of it.
+    pub(crate) fn with(self, kind: &Kind) -> Effects
+        ensures { (kinds : List SaidKind) → AreEffects kinds self → AreEffects (kinds ++ kind_view kind.now ∷ []) result }
+    {
+        let changed = either(self.changed, is_change(kind));
+        let repeated = either(self.repeated, is_repeat(kind));
+        let stale = either(self.stale, is_stale(kind));
+        Effects {
+            changed,
+            repeated,
+            stale,
+        }
+    }
+
+    /// What became of the message.
+    pub(crate) fn fate(self) -> Fate
+        ensures { (kinds : List SaidKind) → AreEffects kinds self → fate_said result ≡ fate_of kinds }
+    {
+        if self.changed {
+            return Fate::Taken;
+        }
+        if self.repeated {
+            return Fate::Repeated;
+        }
+        if self.stale {
+            return Fate::Stale;
+        }
+        Fate::Unreached
+    }
+}
+
+fn either(a: bool, b: bool) -> bool
+    ensures { result ≡ (a || b) }
+{
+    a || b
+}
+
+/// Whether a room has decided or cancelled something.
+fn is_change(kind: &Kind) -> bool
+    ensures { result ≡ is_change (kind_view kind.now) }
+{
+    match kind {
+        Kind::Accepted | Kind::Declined(_) | Kind::Limit(_) | Kind::Cancelled => true,
+        Kind::Repeated | Kind::Stale | Kind::NotAddressed => false,
+    }
+}
+
+/// Whether a room knows some of the message already, and nothing in it is new there.
+fn is_repeat(kind: &Kind) -> bool
+    ensures { result ≡ is_repeat (kind_view kind.now) }
+{
+    match kind {
+        Kind::Repeated => true,
+        Kind::Accepted
+        | Kind::Declined(_)
+        | Kind::Limit(_)
+        | Kind::Cancelled
+        | Kind::Stale
+        | Kind::NotAddressed => false,
+    }
+}
+
+/// Whether all of the message is older than what a room knows.
+fn is_stale(kind: &Kind) -> bool
+    ensures { result ≡ is_stale (kind_view kind.now) }
+{
+    match kind {
+        Kind::Stale => true,
+        Kind::Accepted
+        | Kind::Declined(_)
+        | Kind::Limit(_)
+        | Kind::Cancelled
+        | Kind::Repeated
+        | Kind::NotAddressed => false,
+    }
+}

@@ -1,0 +1,235 @@
+//! Which property of a VEVENT is missing, or there twice, where an object is refused for that (RFC 5545 3.6.1).
+
+ghost use Rattle.std.specs.Prelude.{◌≡◌, None, IfOk, IfSome};
+ghost use Rattle.ical_tree.specs.Tree.{component_children, component_lines};
+ghost use Rattle.sched_cli.specs.EventFlaws.{FlawIn, IsFlaw, IsFlawIn, IsFlawPlaced};
+ghost use Rattle.sched_cli.specs.InTheWay.{sought_line};
+ghost use Rattle.sched_cli.specs.Obstacles.{text_of};
+
+use crate::obstacle::{first_line, second_line};
+use crate::place::{Place, Sought, Spot, place_of};
+use crate::refused_zone::{object_of, text_of};
+use ical_lines::Refusal;
+use ical_tree::Component;
+use std::alloc::{AllocError, Global};
+
+/// The properties of a VEVENT that may occur once, in the order in which they are read.
+const SINGLE: [&str; 10] = [
+    "UID",
+    "ORGANIZER",
+    "DTSTAMP",
+    "SEQUENCE",
+    "STATUS",
+    "RECURRENCE-ID",
+    "DTSTART",
+    "DTEND",
+    "DURATION",
+    "RRULE",
+];
+
+/// What is wrong with a property.
+#[derive(Clone, Copy, PartialEq, Eq)]
+pub(crate) enum FlawKind {
+    /// It isn't there.
+    Missing,
+    /// It occurs twice.
+    Twice,
+    /// It stands beside another one that excludes it.
+    Beside,
+}
+
+/// What is wrong with a VEVENT.
+#[derive(Clone, Copy)]
+pub(crate) struct Flaw<'a> {
+    pub(crate) kind: FlawKind,
+    pub(crate) property: &'a str,
+    /// The text of the line; None where it isn't there.
+    pub(crate) line: Option<&'a str>,
+}
+
+/// What is wrong with a component of an object.
+#[derive(Clone, Copy)]
+pub(crate) struct EventFlaw<'a> {
+    /// Which of the components inside it is the VEVENT, counted from 0.
+    pub(crate) event: usize,
+    /// Its name, as it is written.
+    pub(crate) name: &'a str,
+    pub(crate) flaw: Flaw<'a>,
+}
+
+/// The same, with its places in the object.
+#[derive(Drop)]
+pub(crate) struct PlacedFlaw {
+    pub(crate) kind: FlawKind,
+    pub(crate) property: Vec<u8>,
+    /// The name of the VEVENT, as it is written.
+    pub(crate) event: Vec<u8>,
+    /// The physical line on which that begins, counted from 1.
+    pub(crate) begins: u64,
+    /// The content line that is wrong, or the BEGIN of the VEVENT.
+    pub(crate) place: Place,
+}
+
+/// The first flaw of a VEVENT of an object that is refused with 61 or 63; None for another number.
+pub(crate) fn flaw_in_object(
+    alloc: Global,
+    octets: &[u8],
+    number: u8,
+) -> Result<Option<PlacedFlaw>, AllocError>
+    ensures { IfOk result (λ found. IfSome found (IsFlawIn octets.now)) }
+{
+    if number != Refusal::BAD_PROPERTY.number && number != Refusal::NO_ORGANIZER.number {
+        return Ok(None);
+    }
+    let Some(text) = text_of(alloc, octets)? else {
+        return Ok(None);
+    };
+    let Some(object) = object_of(alloc, &text)? else {
+        return Ok(None);
+    };
+    let Some(found) = first_flaw(&object, number) else {
+        return Ok(None);
+    };
+    placed(alloc, octets, found)
+}
+
+/// The first flaw of a VEVENT of an object.
+fn first_flaw<'c>(object: &'c Component, number: u8) -> Option<EventFlaw<'c>>
+    ensures { IfSome result (FlawIn (component_children object.now)) }
+{
+    let method = method_of(object);
+    for (event, component) in object.children().iter().enumerate() {
+        if component.is_named("VEVENT") {
+            if let Some(flaw) = flaw_of(component, method, number) {
+                return Some(EventFlaw {
+                    event,
+                    name: component.name(),
+                    flaw,
+                });
+            }
+        }
+    }
+    None
+}
+
+/// The value of METHOD, if there is one.
+fn method_of<'c>(object: &'c Component) -> Option<&'c str> {
+    let line = first_line(object, "METHOD")?;
+    Some(line.value())
+}
+
+/// What is wrong with a VEVENT of an object of this METHOD.
+fn flaw_of<'c>(event: &'c Component, method: Option<&str>, number: u8) -> Option<Flaw<'c>>
+    ensures { IfSome result (λ flaw. IsFlaw (component_lines event.now) flaw) }
+{
+    if number == Refusal::NO_ORGANIZER.number {
+        return flaw_in(event, "ORGANIZER", true);
+    }
+    for property in SINGLE {
+        if let Some(flaw) = flaw_in(event, property, is_needed(property, method)) {
+            return Some(flaw);
+        }
+    }
+    beside(event)
+}
+
+/// Whether a VEVENT of an object of this METHOD has to have a property.
+fn is_needed(property: &str, method: Option<&str>) -> bool {
+    match property {
+        "UID" => true,
+        "DTSTAMP" => method.is_some(),
+        "DTSTART" => !may_lack_start(method.unwrap_or("")),
+        _ => false,
+    }
+}
+
+fn may_lack_start(method: &str) -> bool {
+    method.eq_ignore_ascii_case("CANCEL")
+        || method.eq_ignore_ascii_case("REPLY")
+        || method.eq_ignore_ascii_case("REFRESH")
+}
+
+/// A property that is there twice, or that is needed and isn't there.
+fn flaw_in<'c>(event: &'c Component, property: &'static str, is_needed: bool) -> Option<Flaw<'c>>
+    ensures { IfSome result (λ flaw. IsFlaw (component_lines event.now) flaw) }
+{
+    if first_line(event, property).is_none() {
+        return Flaw::missing(property, is_needed);
+    }
+    let line = second_line(event, property)?;
+    Some(Flaw {
+        kind: FlawKind::Twice,
+        property,
+        line: Some(line.text()),
+    })
+}
+
+/// DURATION beside DTEND.
+fn beside<'c>(event: &'c Component) -> Option<Flaw<'c>>
+    ensures { IfSome result (λ flaw. IsFlaw (component_lines event.now) flaw) }
+{
+    first_line(event, "DTEND")?;
+    let line = first_line(event, "DURATION")?;
+    Some(Flaw {
+        kind: FlawKind::Beside,
+        property: "DURATION",
+        line: Some(line.text()),
+    })
+}
+
+impl<'a> Flaw<'a> {
+    /// Of one that isn't there, where it is needed.
+    fn missing(property: &'a str, is_needed: bool) -> Option<Flaw<'a>>
+        ensures { IfSome result (λ flaw. (flaw.kind ≡ FlawKind.Missing) × (flaw.property.now ≡ property.now) × (text_of flaw.line ≡ None)) }
+    {
+        if !is_needed {
+            return None;
+        }
+        Some(Flaw {
+            kind: FlawKind::Missing,
+            property,
+            line: None,
+        })
+    }
+}
+
+/// What is wrong, with its places in the object.
+fn placed(
+    alloc: Global,
+    octets: &[u8],
+    found: EventFlaw<'_>,
+) -> Result<Option<PlacedFlaw>, AllocError>
+    ensures { IfOk result (λ flaw. IfSome flaw (IsFlawPlaced octets.now found.entry)) }
+{
+    let spot = Spot {
+        zone: found.event,
+        part: None,
+    };
+    let Some(begins) = place_of(alloc, octets, Sought::Begin(spot, found.name))? else {
+        return Ok(None);
+    };
+    let Some(place) = place_of(alloc, octets, sought_line(spot, found))? else {
+        return Ok(None);
+    };
+    let mut event = Vec::new(alloc);
+    event.extend_from_slice(found.name.as_bytes())?;
+    let mut property = Vec::new(alloc);
+    property.extend_from_slice(found.flaw.property.as_bytes())?;
+    Ok(Some(PlacedFlaw {
+        kind: found.flaw.kind,
+        property,
+        event,
+        begins: begins.line,
+        place,
+    }))
+}
+
+/// The line that is wrong, or the BEGIN of the VEVENT.
+fn sought_line<'a>(spot: Spot, found: EventFlaw<'a>) -> Sought<'a>
+    ensures { result ≡ sought_line spot found.entry.name found.entry.flaw.line }
+{
+    match found.flaw.line {
+        Some(text) => Sought::Text(spot, text),
+        None => Sought::Begin(spot, found.name),
+    }
+}

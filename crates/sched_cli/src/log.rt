@@ -1,0 +1,179 @@
+//! `--report`: says of each object that came to nothing what became of it, in a line of its own.
+
+ghost use Rattle.std.specs.Prelude.{◌≡◌, ◌++◌, ◌<◌, ℕ, List, [], Option, None, decimal, codes, true, false, IfOk, OnOk};
+ghost use Rattle.std.specs.List.{list_all};
+ghost use Rattle.sched_box.specs.Journal.{fate_said};
+ghost use Rattle.sched_cli.specs.Logging.{IsObjectLine, LogTells, fate_words, is_shown, is_taken};
+
+use crate::header::Header;
+use crate::shown::{append_cut, append_shown};
+use itoa::Buffer;
+use sched_box::{Fate, Journal, Output, WriteFault};
+use std::alloc::{AllocError, Global};
+
+/// A writer of lines about objects that came to nothing.
+#[derive(Drop)]
+pub struct Log<L: Output> {
+    alloc: Global,
+    to: L,
+    /// What stands before the number of an object: nothing, or the name of its file and a blank.
+    file: Vec<u8>,
+    /// Of these objects nothing is said.
+    is_quiet: bool,
+    /// Why a line wasn't written whole, if one wasn't: the first.
+    fault: Option<WriteFault>,
+}
+
+impl<L: Output> Log<L> {
+    /// A log to a writer, in which nothing is said yet.
+    pub fn new(alloc: Global, to: L) -> Log<L>
+        ensures to { result.to ≡ to }
+        ensures none { result.fault ≡ None }
+        ensures loud { result.is_quiet ≡ false }
+        ensures file { result.file.items ≡ [] }
+    {
+        Log {
+            alloc,
+            to,
+            file: Vec::new(alloc),
+            is_quiet: false,
+            fault: None,
+        }
+    }
+
+    /// Why a line wasn't written whole, if one wasn't: the first such fault.
+    pub fn fault(&self) -> Option<WriteFault>
+        ensures { result ≡ self.now.fault }
+    {
+        self.fault
+    }
+}
+
+impl<L: Output> Journal for Log<L> {
+    ghost tells = { λ old k fate new. (new.file.items ≡ old.file.items) × (new.is_quiet ≡ old.is_quiet)
+        × LogTells old.file.items old.is_quiet old.fault (L.contents old.to) k fate new.fault (L.contents new.to) };
+
+    fn begin(&mut self, name: &str, is_new: bool) {
+        self.is_quiet = !is_new;
+        match file_text(self.alloc, name) {
+            Ok(file) => self.file = file,
+            Err(_) => self.fault = first_fault(self.fault, WriteFault::Memory),
+        }
+    }
+
+    fn tell(&mut self, number: u64, octets: &[u8], fate: Fate) {
+        if self.is_quiet || is_taken(fate) {
+            return;
+        }
+        let Ok(line) = object_line(self.alloc, self.file.as_slice(), number, octets, fate) else {
+            self.fault = first_fault(self.fault, WriteFault::Memory);
+            return;
+        };
+        if let Err(fault) = self.to.put(line.as_slice()) {
+            self.fault = first_fault(self.fault, fault);
+        }
+    }
+}
+
+/// Of two faults the earlier one.
+fn first_fault(before: Option<WriteFault>, now: WriteFault) -> Option<WriteFault>
+    ensures { result ≡ None → ⊥ }
+{
+    match before {
+        Some(fault) => Some(fault),
+        None => Some(now),
+    }
+}
+
+fn is_taken(fate: Fate) -> bool
+    ensures { result ≡ is_taken (fate_said fate) }
+{
+    match fate {
+        Fate::Taken => true,
+        Fate::Refused(_) | Fate::Unreached | Fate::Stale | Fate::Repeated => false,
+    }
+}
+
+/// The name of a file and a blank.
+fn file_text(alloc: Global, name: &str) -> Result<Vec<u8>, AllocError> {
+    let mut text = Vec::new(alloc);
+    append_shown(&mut text, name.as_bytes())?;
+    text.extend_from_slice(b" ")?;
+    Ok(text)
+}
+
+/// `roombox: object 3: refused 43, REQUEST, UID plan, ORGANIZER mailto:ann@example.com`, as a line.
+fn object_line(
+    alloc: Global,
+    file: &[u8],
+    number: u64,
+    octets: &[u8],
+    fate: Fate,
+) -> Result<Vec<u8>, AllocError>
+    ensures { IfOk result (λ line. IsObjectLine file.now number (fate_said fate) line.items) }
+{
+    let mut line = Vec::new(alloc);
+    append_place(&mut line, file, number)?;
+    append_fate(&mut line, fate)?;
+    append_header(alloc, &mut line, octets)?;
+    line.push(b'\n')?;
+    Ok(line)
+}
+
+/// `roombox: object 3: `
+fn append_place(line: &mut Vec<u8>, file: &[u8], number: u64) -> Result<(), AllocError>
+    ensures { OnOk result (line.new.items ≡ line.old.items ++ (codes "roombox: " ++ (file.now ++ (codes "object " ++ (decimal number ++ codes ": "))))) }
+{
+    let mut digits = Buffer::new();
+    line.extend_from_slice(b"roombox: ")?;
+    line.extend_from_slice(file)?;
+    line.extend_from_slice(b"object ")?;
+    line.extend_from_slice(digits.format(number).as_bytes())?;
+    line.extend_from_slice(b": ")?;
+    Ok(())
+}
+
+/// What became of it, in words.
+fn append_fate(line: &mut Vec<u8>, fate: Fate) -> Result<(), AllocError>
+    ensures { OnOk result (line.new.items ≡ line.old.items ++ fate_words (fate_said fate)) }
+{
+    match fate {
+        Fate::Refused(refusal) => append_refused(line, refusal.number),
+        Fate::Unreached => line.extend_from_slice(b"reached no room"),
+        Fate::Stale => line.extend_from_slice(b"stale"),
+        Fate::Repeated => line.extend_from_slice(b"changed nothing"),
+        Fate::Taken => line.extend_from_slice(b"taken"),
+    }
+}
+
+fn append_refused(line: &mut Vec<u8>, number: u8) -> Result<(), AllocError>
+    ensures { OnOk result (line.new.items ≡ line.old.items ++ (codes "refused " ++ decimal number)) }
+{
+    let mut digits = Buffer::new();
+    line.extend_from_slice(b"refused ")?;
+    line.extend_from_slice(digits.format(number).as_bytes())?;
+    Ok(())
+}
+
+/// METHOD, UID and ORGANIZER of an object, where they can be read.
+fn append_header(alloc: Global, line: &mut Vec<u8>, octets: &[u8]) -> Result<(), AllocError>
+    ensures { OnOk result ((text : List ℕ) × (list_all is_shown text ≡ true) × (line.new.items ≡ line.old.items ++ text)) }
+{
+    let header = Header::of(alloc, octets)?;
+    append_value(line, b", ", header.method())?;
+    append_value(line, b", UID ", header.uid())?;
+    append_value(line, b", ORGANIZER ", header.organizer())?;
+    Ok(())
+}
+
+/// A value behind what names it, where there is one. At most 200 octets of it are shown, and `..` behind them.
+fn append_value(line: &mut Vec<u8>, before: &[u8], value: &[u8]) -> Result<(), AllocError>
+    requires { list_all is_shown before.now ≡ true }
+    ensures { OnOk result ((text : List ℕ) × (list_all is_shown text ≡ true) × (line.new.items ≡ line.old.items ++ text)) }
+{
+    if value.is_empty() {
+        return Ok(());
+    }
+    line.extend_from_slice(before)?;
+    append_cut(line, value)
+}

@@ -1,0 +1,130 @@
+"""Tries what is said of objects that came to nothing, and of devices that fail, with the program.
+
+    python3 tests/reports.py bin/roombox
+
+What is expected is written by hand from docs/REFERENCE.md and from what the system calls its errors. tests/guide.py has the reports of a stream, and
+what is said of a preamble. It prints each case that fails, and ends with 1 where one did.
+"""
+
+import os
+import subprocess
+import sys
+import tempfile
+from pathlib import Path
+
+from guide import PREAMBLE, R1, Cases, changed, run
+
+NOBODY = 65_534
+KNOWN = ", UID a, ORGANIZER mailto:ann@example.com"
+
+
+def full_standard_error(cases, program):
+    """A report that can't be written: the answers are, and the status is 4."""
+    stream = PREAMBLE + changed({}) + changed({7: ""})
+    out = run(program, "serve", given=stream)[1]
+    quiet = PREAMBLE + changed({})
+    for words in (["serve", "--report"], ["serve", "--report", "--adapt"]):
+        for what, given in [("an object is refused", stream), ("only the counts are said", quiet)]:
+            wanted = run(program, "serve", given=given)[1]
+            with open("/dev/full", "wb") as full:
+                ended = subprocess.run([program, *words], input=given.encode(), stdout=subprocess.PIPE, stderr=full, timeout=60, check=False)
+            cases.holds(f"{' '.join(words)} with a full standard error, {what}", (ended.returncode, ended.stdout.decode()), (4, wanted))
+    with open("/dev/full", "wb") as full:
+        ended = subprocess.run([program, "serve"], input=stream.encode(), stdout=subprocess.PIPE, stderr=full, timeout=60, check=False)
+    cases.holds("without a report nothing is said", (ended.returncode, ended.stdout.decode()), (0, out))
+
+
+def as_they_come(cases, program):
+    """A line is written when its object is answered, not at the end."""
+    child = subprocess.Popen([program, "serve", "--report"], stdin=subprocess.PIPE, stdout=subprocess.DEVNULL, stderr=subprocess.PIPE)
+    child.stdin.write((PREAMBLE + changed({7: ""}) + "\r\n").encode())
+    child.stdin.flush()
+    cases.holds("the line of an object comes before the next object", child.stderr.readline(), b"roombox: object 1: refused 63, REQUEST, UID a\n")
+    child.stdin.close()
+    cases.holds("and the counts at the end", child.stderr.read(), b"roombox: 1 object, 1 refused (63: 1)\n")
+    child.wait()
+    child.stderr.close()
+
+
+def devices(cases, program, parent):
+    """Which device failed, and why."""
+    absent, folder = str(parent / "absent"), str(parent / "folder")
+    os.mkdir(folder)
+    certificate = str(parent / "certificate")
+    Path(certificate).write_text("")
+    for what, words, name, why in [
+        ("check without a calendar", ["check", absent, certificate, R1], absent, "it isn't there"),
+        ("check without a certificate", ["check", certificate, absent, R1], absent, "it isn't there"),
+        ("check of a folder", ["check", folder, certificate, R1], folder, "it is a folder"),
+        ("an agenda of nothing", ["agenda", absent, R1], absent, "it isn't there"),
+        ("zones that aren't there", ["adapt", "--zones", absent], absent, "it isn't there"),
+        ("an original that isn't there", ["adapt", "--reply-to", absent], absent, "it isn't there"),
+        ("a box without a configuration", ["box", absent, folder, folder], absent, "it isn't there"),
+        ("a file below a file", ["check", certificate + "/x", certificate, R1], certificate + "/x", "it isn't in a folder, or is none"),
+    ]:
+        cases.holds(what, run(program, *words), (4, "", f"roombox: device\nroombox: {name}: {why}\n"))
+    for words in (["serve"], ["serve", "--report"], ["keep", R1], ["expand"], ["explain"], ["adapt"], ["serve", "--adapt"]):
+        given = os.open(folder, os.O_RDONLY)
+        ended = subprocess.run([program, *words], stdin=given, capture_output=True, timeout=60, check=False)
+        os.close(given)
+        cases.holds(f"{' '.join(words)} of a folder", (ended.returncode, ended.stdout, ended.stderr), (4, b"", b"roombox: device\nroombox: standard input: it is a folder\n"))
+    stream = PREAMBLE + changed({})
+    for words, given in ((["serve"], stream), (["keep", R1], stream), (["expand"], changed({})), (["explain"], changed({})), (["serve", "--adapt"], stream)):
+        with open("/dev/full", "wb") as full:
+            ended = subprocess.run([program, *words], input=given.encode(), stdout=full, stderr=subprocess.PIPE, timeout=60, check=False)
+        cases.holds(f"{' '.join(words)} onto a full disk", (ended.returncode, ended.stderr), (4, b"roombox: device\nroombox: standard output: no space is left\n"))
+    if os.geteuid() == 0:
+        os.chmod(parent, 0o711)
+        os.chmod(certificate, 0o600)
+        ended = subprocess.run([program, "check", certificate, certificate, R1], capture_output=True, timeout=60, check=False, user=NOBODY)
+        cases.holds("a file that may not be read", (ended.returncode, ended.stderr.decode()), (4, f"roombox: device\nroombox: {certificate}: permission is denied\n"))
+
+
+def boxes(cases, program, parent):
+    """`box --report`: of the files that weren't answered before; and why a folder can't be used, or a configuration be read."""
+    inbox, outbox, config = parent / "inbox", parent / "outbox", parent / "config"
+    for folder in (inbox, outbox):
+        folder.mkdir()
+    config.write_text(f"room {R1}\n")
+    first, second = "20250102T000000Z-1.ics", "20250102T000000Z-2.ics"
+    (inbox / first).write_bytes((changed({}) + changed({7: ""}) + changed({})).encode())
+
+    def reported(*words):
+        return run(program, "box", *words, str(config), str(inbox), str(outbox))
+
+    lines = f"roombox: {first} object 2: refused 63, REQUEST, UID a\nroombox: {first} object 3: changed nothing, REQUEST{KNOWN}\n"
+    cases.holds("a report of a file", reported("--report"), (0, "", lines))
+    cases.holds("it isn't said again", reported("--report"), (0, "", ""))
+    (inbox / second).write_bytes(changed({8: "ATTENDEE:mailto:r9@example.com"}).encode())
+    cases.holds("a report of a new file", reported("--report"), (0, "", f"roombox: {second} object 1: reached no room, REQUEST{KNOWN}\n"))
+    for name in (first, second):
+        (outbox / name.replace(".ics", ".out")).unlink()
+    cases.holds("without --report nothing is said", reported(), (0, "", ""))
+    for name in (first, second):
+        (outbox / name.replace(".ics", ".out")).unlink()
+    with open("/dev/full", "wb") as full:
+        ended = subprocess.run([program, "box", "--report", str(config), str(inbox), str(outbox)], stderr=full, timeout=60, check=False)
+    cases.holds("a report that can't be written", (ended.returncode, sorted(os.listdir(outbox))), (4, [first.replace(".ics", ".out"), second.replace(".ics", ".out")]))
+    config.write_text(f"now 20250102T000000Z\nroom {R1}\n")
+    cases.holds("a configuration with a moment", reported(), (3, "", "roombox: refused 90\nroombox: line 1: a configuration has no `now`: now 20250102T000000Z\n"))
+    config.write_text(f"room {R1}\nrom mailto:r2@example.com\n")
+    unknown = "it doesn't begin with `now `, `room `, `zone ` or `organiser `"
+    cases.holds("a configuration with a word that is none", reported(), (3, "", f"roombox: refused 90\nroombox: line 2: {unknown}: rom mailto:r2@example.com\n"))
+    config.write_text(f"room {R1}\n")
+    absent = parent / "absent"
+    cases.holds("no inbox", run(program, "box", str(config), str(absent), str(outbox)), (4, "", f"roombox: device\nroombox: {absent}: it isn't there\n"))
+    cases.holds("no outbox", run(program, "box", str(config), str(inbox), str(absent)), (4, "", f"roombox: device\nroombox: {absent}: it isn't there\n"))
+
+
+def main():
+    program, cases = str(Path(sys.argv[1]).resolve()), Cases()
+    full_standard_error(cases, program)
+    as_they_come(cases, program)
+    for part in (devices, boxes):
+        with tempfile.TemporaryDirectory() as folder:
+            part(cases, program, Path(folder))
+    print(f"{cases.count} cases, {cases.failed} failed")
+    sys.exit(1 if cases.failed else 0)
+
+
+main()
