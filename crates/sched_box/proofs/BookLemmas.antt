@@ -16,11 +16,12 @@ use Rattle.profile.specs.streams.Streams.{HostedOrganiser, IsTaken, ObjectFault,
 use Rattle.profile.specs.streams.Worlds as worlds
 use Rattle.profile.specs.streams.Worlds.{ChangesOne}
 use Rattle.sched_box.specs.Answering.{AreHosted, RoomsTake}
-use Rattle.sched_box.specs.Books.{AnswersKept, KeepAll, RefusesKept, TakesKept}
+use Rattle.sched_box.specs.Books.{AnswersKeptAs, KeepAll, RefusesKept, TakesKept}
 use Rattle.sched_box.specs.Objects.{kept_of}
 use Rattle.sched_box.specs.Organising.{AreKeptBy, KeepBooks, OrganisersRefuse, OrganisersTake}
 use Rattle.sched_box.specs.declared.books.Books.{Books}
 use Rattle.sched_box.proofs.AnswerLemmas.{all_take}
+use Rattle.sched_box.proofs.ToldLemmas.{as_refused, as_taken}
 
 -- ---- what is taken
 
@@ -99,12 +100,12 @@ kept_on old new keep same box have =
 
 -- ---- what is answered
 
-pub answers_taken : (moment : ℤ) (k : ℕ) (kept : List ℕ) (old new : Books) (octets : List ℕ) (fate : Fate) → TakesKept moment kept old new octets fate → AnswersKept moment k kept old new octets fate
+pub answers_taken : (moment : ℤ) (k : ℕ) (kept : List ℕ) (old new : Books) (octets : List ℕ) (fate : Fate) → TakesKept moment kept old new octets fate → AnswersKeptAs moment k kept old new octets fate
 answers_taken moment k kept old new octets fate takes object is before have =
-    let (after, hosted, taken) = takes object is before have in
-    (after, hosted, inl taken)
+    let (after, hosted, (said, spells, steps, became)) = takes object is before have in
+    (after, hosted, as_taken moment k object before after octets fate said spells steps became)
 
 pub answers_refused : (moment : ℤ) (k : ℕ) (kept : List ℕ) (n : ℕ) (old new : Books) (octets : List ℕ) → RefusesKept kept old n → KeepAll old new → octets ≡ refused_line k n
-    → AnswersKept moment k kept old new octets (reports.Refused n)
+    → AnswersKeptAs moment k kept old new octets (reports.Refused n)
 answers_refused moment k kept n old new octets refuses keep line object is before have =
-    (before, keep before have, inr (n, refuses object is before have, refl, line, refl))
+    (before, keep before have, as_refused moment k object before octets n (refuses object is before have) line)

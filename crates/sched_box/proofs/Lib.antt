@@ -16,5 +16,6 @@ pub mod PreambleLemmas
 pub mod ScheduleLemmas
 pub mod ServingLemmas
 pub mod SettingLemmas
+pub mod TellingLemmas
 pub mod ToldLemmas
 pub mod ZoneLemmas

@@ -1,19 +1,19 @@
 -- The objects and answers so far, against those of the whole stream.
-use Rattle.std.proofs.Common.{◌≡◌, ◌⊎◌, inl, inr, ℕ, ℤ, Bool, ◌+◌, ◌-◌, ◌<◌, ◌≤◌, true, false, List, [], ◌∷◌, ◌++◌, length, take, Option, Some, None, IfSome, OnSome, Result, Ok, Err, refl, sym, ap, subst, ◌∙◌, arith, length-append, Contains, true≢false}
+use Rattle.std.proofs.Common.{◌≡◌, ◌⊎◌, inl, inr, ℕ, ℤ, Bool, ◌+◌, ◌-◌, ◌<◌, ◌≤◌, true, false, List, [], ◌∷◌, ◌++◌, length, take, Option, Some, None, IfSome, OnSome, IfOk, Result, Ok, Err, refl, sym, ap, subst, ◌∙◌, arith, length-append, Contains, true≢false}
 use Rattle.std.proofs.lemmas.List.{append_assoc, append-nil}
 use Rattle.std.specs.Io.KnownBytes.{Appends, Consumes, Keeps, IsAtEnd}
 use Rattle.std.proofs.KnownBytes.{Appends-kept, Appends-nil, Appends-trans, Keeps-refl}
 use Rattle.profile.specs.text.Objects.{is_begun, after_object}
 use Rattle.profile.specs.rooms.Rooms.{Book}
 use Rattle.profile.specs.streams.Reports.{AllAnswersAs, AllTold, AnswersAs, Fate, refusals}
-use Rattle.profile.specs.streams.Streams.{BeginsWith, AreObjects, AllAnswers, Box, Config, new_box}
+use Rattle.profile.specs.streams.Streams.{BeginsWith, AreObjects, Answers, AllAnswers, Box, Config, new_box}
 use Rattle.room_books.specs.declared.room.Room.{Room}
 use Rattle.sched_box.specs.declared.fault.ServeFault.{ServeFault}
 use Rattle.sched_box.specs.declared.fault.ServeFault.TheVariants.{Read, Write, TooLong, Memory}
 use Rattle.sched_box.specs.declared.objects.Objects.{Objects}
 use Rattle.sched_box.specs.declared.serving.ServeReport.{ServeReport}
 use Rattle.sched_box.specs.Answering.{IsHosted}
-use Rattle.sched_box.specs.Books.{AnswersKept, AreBooksOf, hosted_rooms}
+use Rattle.sched_box.specs.Books.{AnswersKept, AnswersKeptAs, AreBooksOf, hosted_rooms}
 use Rattle.sched_box.specs.declared.books.Books.{Books}
 use Rattle.sched_devices.specs.Input.{IsFilledWithin}
 use Rattle.sched_box.specs.Objects.{kept_of, IsStop, TakesNextObject, ReadsObject, StopsReading}
@@ -29,7 +29,7 @@ use Rattle.sched_box.specs.Sending.{StopsSending}
 use Rattle.sched_box.specs.Preamble.{OpensStream, OpensNot, StopsInPreamble}
 use Rattle.cal_events.proofs.shared_lemmas.SeriesLemmas.{zip_with}
 use Rattle.sched_box.proofs.ObjectLemmas.{after_short}
-use Rattle.sched_box.proofs.ToldLemmas.{all_answers, all_refusals, answers_of, as_more, at_most_one, refusals_more, told_more}
+use Rattle.sched_box.proofs.ToldLemmas.{as_more, told_more}
 
 -- ---- one more object
 
@@ -91,6 +91,21 @@ gives_all None b c objects kept taken g t = (tt, tt)
 gives_all (Some xs) None c objects kept taken g t = absurd g
 gives_all (Some xs) (Some ys) c objects kept taken g t = ((ys, g, t.begun), t.end refl)
 
+pub answers_more : (moment : ℤ) (k : ℕ) (objects : List (List ℕ)) (object : List ℕ) (before mid after : Box) (octets more : List ℕ) (refused one : ℕ)
+    → AllAnswers moment k objects before mid octets refused → Answers moment (k + length objects) object mid after more one
+    → AllAnswers moment k (objects ++ object ∷ []) before after (octets ++ more) (refused + one)
+answers_more moment k [] object before mid after octets more refused one (same, none, zero') a =
+    let P : Box → Type 0 = λ box. Answers moment k object box after more one in
+    let Q : ℕ → Type 0 = λ n. Answers moment n object mid after more one in
+    let here : k + 0 ≡ k = omega arith in
+    let sum : refused + one ≡ one + 0 = omega arith in
+    (after, more, [], one, 0, ap (λ z. z ++ more) none ∙ sym (append-nil more), sum, subst P same (subst Q here a), (refl, refl, refl))
+answers_more moment k (o ∷ os) object before mid after octets more refused one (box, first, rest, r, s, is, sum, a, others) answer =
+    let Q : ℕ → Type 0 = λ n. Answers moment n object mid after more one in
+    let place : k + length (o ∷ os) ≡ k + 1 + length os = omega arith in
+    let total : refused + one ≡ r + (s + one) = omega arith in
+    (box, first, rest ++ more, r, s + one, ap (λ z. z ++ more) is ∙ append_assoc first rest more, total, a, answers_more moment (k + 1) os object box mid after rest more s one others (subst Q place answer))
+
 -- ---- the loop
 
 -- the objects so far were taken, and their answers written
@@ -118,11 +133,9 @@ pub record Sofar (most : ℕ) (moment : ℤ) (olds news : Books) (input left out
   pub few : report.objects + may_read ≤ most
   pub refusals : report.refused ≤ report.objects
 
--- and each of them was told
-pub record SofarTold {Told : Type 0} (Tells : Told → ℕ → Fate → Told → Type 0) (old now : Told) (most : ℕ) (moment : ℤ) (olds news : Books) (input left output written : Option (List ℕ)) (may_read : ℕ) (report : ServeReport) : Type 0 where
-  pub so : Sofar most moment olds news input left output written may_read report
-  pub told : AllTold Tells old 1 so.fates now
-  pub counted : report.objects ≡ length so.fates
+gives_nothing : (a : Option (List ℕ)) → Gives a a []
+gives_nothing None = tt
+gives_nothing (Some xs) = refl
 
 pub none_served : (most : ℕ) (moment : ℤ) (books : Books) (input output : Option (List ℕ)) (report : ServeReport) (may_read : ℕ) → report.objects ≡ 0 → report.refused ≡ 0 → may_read ≡ most
     → Sofar most moment books books input input output output may_read report
@@ -132,7 +145,7 @@ none_served most moment books input output report may_read no_objects no_refused
     after = before;
     octets = [];
     hosted = have;
-    gives = nothing input;
+    gives = gives_nothing input;
     answers = (refl, refl, no_refused);
     counted = no_objects;
     writes = Appends-nil output;
@@ -143,18 +156,9 @@ none_served most moment books input output report may_read no_objects no_refused
   refusals = omega arith;
 }
   where
-    nothing : (a : Option (List ℕ)) → Gives a a []
-    nothing None = tt
-    nothing (Some xs) = refl
-
     unread : (a : Option (List ℕ)) → HasLeft most a a may_read
     unread None = tt
     unread (Some xs) = ap (λ n. length xs + n) all
-
-pub none_told : {Told : Type 0} (Tells : Told → ℕ → Fate → Told → Type 0) (old : Told) (most : ℕ) (moment : ℤ) (books : Books) (input output : Option (List ℕ)) (report : ServeReport) (may_read : ℕ) → report.objects ≡ 0 → report.refused ≡ 0 → may_read ≡ most
-    → SofarTold Tells old old most moment books books input input output output may_read report
-none_told Tells old most moment books input output report may_read no_objects no_refused all =
-    record { so = none_served most moment books input output report may_read no_objects no_refused all; told = refl; counted = no_objects }
 
 read_on : (most : ℕ) (a b c : Option (List ℕ)) (taken : List ℕ) (old new : ℕ) → HasLeft most a b old → Consumes b c taken → new + length taken ≡ old → HasLeft most a c new
 read_on most None b c taken old new h consumed left = tt
@@ -266,9 +270,9 @@ stopped most moment olds news a b c output written before after report fault len
           objects = served.objects;
           after = served.after;
           octets = served.octets;
-          refused = all_refusals so.fates;
+          refused = report.refused;
           gives = gives_stopped a b c served.objects before after f served.gives s;
-          answers = all_answers moment 1 served.objects start served.after served.octets so.fates served.answers;
+          answers = served.answers;
           written = served.writes;
         }
 
@@ -279,9 +283,9 @@ stopped most moment olds news a b c output written before after report fault len
           objects = served.objects;
           after = served.after;
           octets = served.octets;
-          refused = all_refusals so.fates;
+          refused = report.refused;
           gives = gives_read a b c served.objects before after f served.gives s (is_read most a b c served.objects report.objects lent paid bound before.left s.taken between served.counted so.read s.consumed some);
-          answers = all_answers moment 1 served.objects start served.after served.octets so.fates served.answers;
+          answers = served.answers;
           written = served.writes;
         }
 
@@ -305,9 +309,9 @@ forgotten most moment olds news a b c output written now before after report so 
         objects = served.objects;
         after = served.after;
         octets = served.octets;
-        refused = all_refusals so.fates;
+        refused = report.refused;
         gives = gives_whole a b c served.objects after.octets.items taken served.gives t;
-        answers = all_answers moment 1 served.objects start served.after served.octets so.fates served.answers;
+        answers = served.answers;
         written = Appends-kept output written now served.octets served.writes keeps;
       },
       read_less most a c after.left (read_on most a b c taken before.left after.left so.read t.consumed left) more,
@@ -355,28 +359,28 @@ bound_stopped most a b c before after fault read s = at fault s.stop
     at Write stop = absurd stop
 
 -- the answers to an object from the box so far
-next_answers : (moment : ℤ) (news newer : Books) (number : ℕ) (kept more taken : List ℕ) (fate : Fate) (n : ℕ) → number ≡ n + 1
-    → AnswersKept moment number kept news newer more fate → kept ≡ kept_of taken → (mid : Box) → AreBooksOf news mid
-    → (after : Box) × AreBooksOf newer after × AnswersAs moment (n + 1) taken mid after more fate
-next_answers moment news newer number kept more taken fate n number_is answers kept_is mid have =
+next_answers : (moment : ℤ) (news newer : Books) (number : ℕ) (kept more taken : List ℕ) (one : ℕ) (n : ℕ) → number ≡ n + 1
+    → AnswersKept moment number kept news newer more one → kept ≡ kept_of taken → (mid : Box) → AreBooksOf news mid
+    → (after : Box) × AreBooksOf newer after × Answers moment (n + 1) taken mid after more one
+next_answers moment news newer number kept more taken one n number_is answers kept_is mid have =
     let (after, hosted, answer) = answers taken kept_is mid have in
-    let Q : ℕ → Type 0 = λ k. AnswersAs moment k taken mid after more fate in
+    let Q : ℕ → Type 0 = λ k. Answers moment k taken mid after more one in
     (after, hosted, subst Q number_is answer)
 
 -- the answers to an object were made, and weren't written whole
-pub unsent : (most : ℕ) (moment : ℤ) (olds news newer : Books) (a b c output written now : Option (List ℕ)) (failed : Bool) (before after : Objects) (report : ServeReport) (number : ℕ) (told : Fate) (more : List ℕ) (fault : ServeFault)
+pub unsent : (most : ℕ) (moment : ℤ) (olds news newer : Books) (a b c output written now : Option (List ℕ)) (failed : Bool) (before after : Objects) (report : ServeReport) (number one : ℕ) (more : List ℕ) (fault : ServeFault)
     → Sofar most moment olds news a b output written before.left report → ReadsObject b c before after true → number ≡ report.objects + 1
-    → AnswersKept moment number after.octets.items news newer more told → StopsSending written now failed more fault
+    → AnswersKept moment number after.octets.items news newer more one → StopsSending written now failed more fault
     → (start : Box) → AreBooksOf olds start
     → ServesUntil most moment start (record { input = a; left = c; output = output; written = now }) fault
-unsent most moment olds news newer a b c output written now failed before after report number told more Read so reads number_is answers sends start have = absurd sends
-unsent most moment olds news newer a b c output written now failed before after report number told more TooLong so reads number_is answers sends start have = absurd sends
-unsent most moment olds news newer a b c output written now failed before after report number told more Memory so reads number_is answers sends start have =
+unsent most moment olds news newer a b c output written now failed before after report number one more Read so reads number_is answers sends start have = absurd sends
+unsent most moment olds news newer a b c output written now failed before after report number one more TooLong so reads number_is answers sends start have = absurd sends
+unsent most moment olds news newer a b c output written now failed before after report number one more Memory so reads number_is answers sends start have =
     forgotten most moment olds news a b c output written now before after report so reads sends start have
-unsent most moment olds news newer a b c output written now failed before after report number told more Write so (taken, t, left, rest) number_is answers (f, some, partly) start have =
+unsent most moment olds news newer a b c output written now failed before after report number one more Write so (taken, t, left, rest) number_is answers (f, some, partly) start have =
     let served = so.served start have in
     let same : number ≡ length served.objects + 1 = number_is ∙ ap (λ k. k + 1) served.counted in
-    let (box, hosted, answer) = next_answers moment news newer number after.octets.items more taken told (length served.objects) same answers t.kept_is served.after served.hosted in (
+    let (box, hosted, answer) = next_answers moment news newer number after.octets.items more taken one (length served.objects) same answers t.kept_is served.after served.hosted in (
       record {
         objects = served.objects;
         last = taken;
@@ -384,12 +388,12 @@ unsent most moment olds news newer a b c output written now failed before after 
         after = box;
         octets = served.octets;
         answer = more;
-        refused = all_refusals so.fates;
-        one = refusals told;
+        refused = report.refused;
+        one = one;
         cut = partly.0;
         gives = gives_more a b c served.objects after.octets.items taken served.gives t;
-        answers = all_answers moment 1 served.objects start served.after served.octets so.fates served.answers;
-        answered = answers_of moment (length served.objects + 1) taken served.after box more told answer;
+        answers = served.answers;
+        answered = answer;
         some = some;
         written = Appends-trans output written now served.octets (take partly.0 more) served.writes partly.1;
       },
@@ -397,47 +401,37 @@ unsent most moment olds news newer a b c output written now failed before after 
     )
 
 -- one more object
-pub served_more : {Told : Type 0} (Tells : Told → ℕ → Fate → Told → Type 0) (old mid now : Told) (most : ℕ) (moment : ℤ) (olds news newer : Books) (a b c output written new : Option (List ℕ)) (before after : Objects) (report next : ServeReport) (number : ℕ) (told : Fate) (more : List ℕ)
-    → SofarTold Tells old mid most moment olds news a b output written before.left report → ReadsObject b c before after true → number ≡ report.objects + 1
-    → AnswersKept moment number after.octets.items news newer more told → Tells mid number told now → hosted_rooms newer ≡ hosted_rooms news → Appends written new more
-    → next.objects ≡ number → next.refused ≡ report.refused + refusals told → SofarTold Tells old now most moment olds newer a c output new after.left next
-served_more Tells old mid now most moment olds news newer a b c output written new before after report next number told more have_told (taken, t, left, rest) number_is answers tells same appended objects_are refused_are =
-    let so = have_told.so in
+pub served_more : (most : ℕ) (moment : ℤ) (olds news newer : Books) (a b c output written new : Option (List ℕ)) (before after : Objects) (report next : ServeReport) (number one : ℕ) (more : List ℕ)
+    → Sofar most moment olds news a b output written before.left report → ReadsObject b c before after true → number ≡ report.objects + 1
+    → AnswersKept moment number after.octets.items news newer more one → one ≤ 1 → hosted_rooms newer ≡ hosted_rooms news → Appends written new more
+    → next.objects ≡ number → next.refused ≡ report.refused + one → Sofar most moment olds newer a c output new after.left next
+served_more most moment olds news newer a b c output written new before after report next number one more so (taken, t, left, rest) number_is answers small same appended objects_are refused_are =
     let few = so.few in
-    let refusals_so = so.refusals in
-    let small = at_most_one told in
+    let refusals = so.refusals in
     let some = t.some refl in
     record {
-      so = record {
-        fates = so.fates ++ told ∷ [];
-        refused = refused_are ∙ ap (λ n. n + refusals told) so.refused ∙ sym (refusals_more so.fates told);
-        served = λ start have.
-            let served = so.served start have in
-            let numbered : number ≡ length served.objects + 1 = number_is ∙ ap (λ k. k + 1) served.counted in
-            let (box, hosted, answer) = next_answers moment news newer number after.octets.items more taken told (length served.objects) numbered answers t.kept_is served.after served.hosted in
-            let first : length served.objects + 1 ≡ 1 + length served.objects = omega arith in
-            let P : ℕ → Type 0 = λ k. AnswersAs moment k taken served.after box more told in
-            record {
-              objects = served.objects ++ taken ∷ [];
-              after = box;
-              octets = served.octets ++ more;
-              hosted = hosted;
-              gives = gives_more a b c served.objects after.octets.items taken served.gives t;
-              answers = as_more moment 1 served.objects taken start served.after box served.octets more so.fates told served.answers (subst P first answer);
-              counted = objects_are ∙ numbered ∙ sym (length-append served.objects (taken ∷ []));
-              writes = Appends-trans output written new served.octets more served.writes appended;
-            };
-        addresses = same ∙ so.addresses;
-        read = read_on most a b c taken before.left after.left so.read t.consumed left;
-        few = omega arith;
-        refusals = omega arith;
-      };
-      told = told_more Tells old mid now 1 number so.fates told have_told.told (number_is ∙ ap (λ n. n + 1) have_told.counted ∙ comm (length so.fates)) tells;
-      counted = objects_are ∙ number_is ∙ ap (λ n. n + 1) have_told.counted ∙ sym (length-append so.fates (told ∷ []));
+      served = λ start have.
+          let served = so.served start have in
+          let numbered : number ≡ length served.objects + 1 = number_is ∙ ap (λ k. k + 1) served.counted in
+          let (now, hosted, answer) = next_answers moment news newer number after.octets.items more taken one (length served.objects) numbered answers t.kept_is served.after served.hosted in
+          let first : length served.objects + 1 ≡ 1 + length served.objects = omega arith in
+          let P : ℕ → Type 0 = λ k. Answers moment k taken served.after now more one in
+          let Q : ℕ → Type 0 = λ k. AllAnswers moment 1 (served.objects ++ taken ∷ []) start now (served.octets ++ more) k in
+          record {
+            objects = served.objects ++ taken ∷ [];
+            after = now;
+            octets = served.octets ++ more;
+            hosted = hosted;
+            gives = gives_more a b c served.objects after.octets.items taken served.gives t;
+            answers = subst Q (sym refused_are) (answers_more moment 1 served.objects taken start served.after now served.octets more report.refused one served.answers (subst P first answer));
+            counted = objects_are ∙ numbered ∙ sym (length-append served.objects (taken ∷ []));
+            writes = Appends-trans output written new served.octets more served.writes appended;
+          };
+      addresses = same ∙ so.addresses;
+      read = read_on most a b c taken before.left after.left so.read t.consumed left;
+      few = omega arith;
+      refusals = omega arith;
     }
-  where
-    comm : (n : ℕ) → n + 1 ≡ 1 + n
-    comm n = omega arith
 
 -- no object is left
 pub served_all : (most : ℕ) (moment : ℤ) (olds news : Books) (a b c output written : Option (List ℕ)) (before after : Objects) (report : ServeReport)
@@ -445,42 +439,25 @@ pub served_all : (most : ℕ) (moment : ℤ) (olds news : Books) (a b c output w
     → (final : Box) × AreBooksOf news final × ServesAll most moment start final (record { input = a; left = c; output = output; written = written }) report
 served_all most moment olds news a b c output written before after report so (taken, t, left, more) start have =
     let served = so.served start have in
-    let ended = gives_all a b c served.objects after.octets.items taken served.gives t in
-    let R : ℕ → Type 0 = AllAnswers moment 1 served.objects start served.after served.octets in (
+    let ended = gives_all a b c served.objects after.octets.items taken served.gives t in (
       served.after,
       served.hosted,
-      record { objects = served.objects; octets = served.octets; are = ended.0; end = ended.1; answers = subst R (sym so.refused) (all_answers moment 1 served.objects start served.after served.octets so.fates served.answers); counted = served.counted; bound = read_less most a c after.left (read_on most a b c taken before.left after.left so.read t.consumed left) more; written = served.writes },
+      record { objects = served.objects; octets = served.octets; are = ended.0; end = ended.1; answers = served.answers; counted = served.counted; bound = read_less most a c after.left (read_on most a b c taken before.left after.left so.read t.consumed left) more; written = served.writes },
     )
-
--- and each was told
-pub told_all : {Told : Type 0} (Tells : Told → ℕ → Fate → Told → Type 0) (old now : Told) (most : ℕ) (moment : ℤ) (olds news : Books) (a b c output written : Option (List ℕ)) (before after : Objects) (report : ServeReport)
-    → SofarTold Tells old now most moment olds news a b output written before.left report → ReadsObject b c before after false → (start : Box) → AreBooksOf olds start
-    → TellsAll Tells old now moment start (record { input = a; left = c; output = output; written = written }) report
-told_all Tells old now most moment olds news a b c output written before after report have_told (taken, t, left, more) start have =
-    let served = have_told.so.served start have in
-    let ended = gives_all a b c served.objects after.octets.items taken served.gives t in
-    record {
-      objects = served.objects;
-      after = served.after;
-      octets = served.octets;
-      fates = have_told.so.fates;
-      are = ended.0;
-      answers = served.answers;
-      written = served.writes;
-      told = have_told.told;
-      counted = served.counted;
-    }
 
 -- ---- the parts of a function's answer
 
 -- what is sent is the answer, as the octets that were there before are none
-pub answered_from : (moment : ℤ) (number : ℕ) (kept kept' : List ℕ) (olds news : Books) (old new sent : List ℕ) (fate : Fate) → old ≡ [] → sent ≡ new → kept' ≡ kept
-    → (more : List ℕ) × (new ≡ old ++ more) × AnswersKept moment number kept' olds news more fate → AnswersKept moment number kept olds news sent fate
-answered_from moment number kept kept' olds news old new sent fate none sent_is kept_is (more, is, answers) =
+pub answered_from : (Answered : List ℕ → List ℕ → Type 0) (kept kept' old new sent : List ℕ) → old ≡ [] → sent ≡ new → kept' ≡ kept → (more : List ℕ) × (new ≡ old ++ more) × Answered kept' more → Answered kept sent
+answered_from Answered kept kept' old new sent none sent_is kept_is (more, is, answers) =
     let same : more ≡ sent = sym (sent_is ∙ is ∙ ap (λ z. z ++ more) none) in
-    let P : List ℕ → Type 0 = λ z. AnswersKept moment number kept' olds news z fate in
-    let Q : List ℕ → Type 0 = λ z. AnswersKept moment number z olds news sent fate in
-    subst Q kept_is (subst P same answers)
+    subst (λ z. Answered z sent) kept_is (subst (Answered kept') same answers)
+
+-- the answers, without what became of the object
+pub kept_answers : (moment : ℤ) (k : ℕ) (kept : List ℕ) (old new : Books) (octets : List ℕ) (fate : Fate) → AnswersKeptAs moment k kept old new octets fate → AnswersKept moment k kept old new octets (refusals fate)
+kept_answers moment k kept old new octets fate answers object is before have =
+    let (after, hosted, answer) = answers object is before have in
+    (after, hosted, answer.0)
 
 pub serves_from : (moment : ℤ) (before : Box) (news : Books) (ends : Ends) (r : Result ServeReport ServeFault) → BooksServe 1_073_741_824 moment before news ends r → Serves moment before ends r
 serves_from moment before news ends (Ok report) (after, hosted, all) = (after, all)
@@ -584,7 +561,89 @@ keeping_stopped moment before news a b c d reader Memory h cause = h.1
 
 -- ---- who is told
 
-pub stream_tells : {Told : Type 0} (Tells : Told → ℕ → Fate → Told → Type 0) (old new : Told) (a mid left output written : Option (List ℕ)) (moment : ℤ) (hosts : Config) (report : ServeReport) → OpensStream a mid moment hosts
-    → TellsAll Tells old new moment (new_box hosts) (record { input = mid; left = left; output = output; written = written }) report
+-- the objects so far were taken, and their answers written; each of them was told
+pub record ToldSofar {Told : Type 0} (Tells : Told → ℕ → List ℕ → Fate → Told → Type 0) (old now : Told) (moment : ℤ) (news : Books) (input left output written : Option (List ℕ)) (before : Box) (report : ServeReport) : Type 0 where
+  pub objects : List (List ℕ)
+  pub after : Box
+  pub octets : List ℕ
+  pub fates : List Fate
+  pub hosted : AreBooksOf news after
+  pub gives : Gives input left objects
+  pub answers : AllAnswersAs moment 1 objects before after octets fates
+  pub counted : report.objects ≡ length objects
+  pub writes : Appends output written octets
+  pub told : AllTold (λ first k object fate next. Tells first k (kept_of object) fate next) old 1 objects fates now
+
+-- from whatever the books were
+abbrev pub TellsSofar : {Told : Type 0} → (Told → ℕ → List ℕ → Fate → Told → Type 0) → Told → Told → ℤ → Books → Books → Option (List ℕ) → Option (List ℕ) → Option (List ℕ) → Option (List ℕ) → ServeReport → Type 0
+TellsSofar Tells old now moment olds news input left output written report =
+    (before : Box) → AreBooksOf olds before → ToldSofar Tells old now moment news input left output written before report
+
+pub none_told : {Told : Type 0} (Tells : Told → ℕ → List ℕ → Fate → Told → Type 0) (old : Told) (moment : ℤ) (books : Books) (input output : Option (List ℕ)) (report : ServeReport) → report.objects ≡ 0
+    → TellsSofar Tells old old moment books books input input output output report
+none_told Tells old moment books input output report no_objects before have = record {
+  objects = [];
+  after = before;
+  octets = [];
+  fates = [];
+  hosted = have;
+  gives = gives_nothing input;
+  answers = (refl, refl, refl);
+  counted = no_objects;
+  writes = Appends-nil output;
+  told = refl;
+}
+
+pub told_next : {Told : Type 0} (Tells : Told → ℕ → List ℕ → Fate → Told → Type 0) (old mid now : Told) (moment : ℤ) (olds news newer : Books) (a b c output written new : Option (List ℕ)) (before after : Objects) (report next : ServeReport) (number : ℕ) (fate : Fate) (more : List ℕ)
+    → TellsSofar Tells old mid moment olds news a b output written report → ReadsObject b c before after true → number ≡ report.objects + 1
+    → AnswersKeptAs moment number after.octets.items news newer more fate → Tells mid number after.octets.items fate now → Appends written new more → next.objects ≡ number
+    → TellsSofar Tells old now moment olds newer a c output new next
+told_next Tells old mid now moment olds news newer a b c output written new before after report next number fate more sofar (taken, t, left, rest) number_is answers tells appended objects_are start have =
+    let so = sofar start have in
+    let numbered : number ≡ length so.objects + 1 = number_is ∙ ap (λ k. k + 1) so.counted in
+    let first : number ≡ 1 + length so.objects = omega arith in
+    let (box, hosted, answer) = answers taken t.kept_is so.after so.hosted in
+    let P : ℕ → Type 0 = λ k. AnswersAs moment k taken so.after box more fate in
+    let Q : List ℕ → Type 0 = λ kept. Tells mid number kept fate now in
+    record {
+      objects = so.objects ++ taken ∷ [];
+      after = box;
+      octets = so.octets ++ more;
+      fates = so.fates ++ fate ∷ [];
+      hosted = hosted;
+      gives = gives_more a b c so.objects after.octets.items taken so.gives t;
+      answers = as_more moment 1 so.objects taken start so.after box so.octets more so.fates fate so.answers (subst P first answer);
+      counted = objects_are ∙ numbered ∙ sym (length-append so.objects (taken ∷ []));
+      writes = Appends-trans output written new so.octets more so.writes appended;
+      told = told_more (λ u k o f v. Tells u k (kept_of o) f v) old mid now 1 number so.objects taken so.fates fate so.told first (subst Q t.kept_is tells);
+    }
+
+pub told_all : {Told : Type 0} (Tells : Told → ℕ → List ℕ → Fate → Told → Type 0) (old now : Told) (moment : ℤ) (olds news : Books) (a b c output written : Option (List ℕ)) (before after : Objects) (report : ServeReport)
+    → TellsSofar Tells old now moment olds news a b output written report → ReadsObject b c before after false → (start : Box) → AreBooksOf olds start
+    → (final : Box) × AreBooksOf news final × TellsAll Tells old now moment start final (record { input = a; left = c; output = output; written = written }) report
+told_all Tells old now moment olds news a b c output written before after report sofar (taken, t, left, more) start have =
+    let so = sofar start have in (
+      so.after,
+      so.hosted,
+      record {
+        objects = so.objects;
+        octets = so.octets;
+        fates = so.fates;
+        are = (gives_all a b c so.objects after.octets.items taken so.gives t).0;
+        answers = so.answers;
+        written = so.writes;
+        told = so.told;
+        counted = so.counted;
+      },
+    )
+
+-- the books are forgotten
+pub tells_from : {Told : Type 0} (Tells : Told → ℕ → List ℕ → Fate → Told → Type 0) (old now : Told) (moment : ℤ) (before : Box) (news : Books) (ends : Ends) (r : Result ServeReport ServeFault)
+    → IfOk r (λ report. (after : Box) × AreBooksOf news after × TellsAll Tells old now moment before after ends report) → IfOk r (λ report. (after : Box) × TellsAll Tells old now moment before after ends report)
+tells_from Tells old now moment before news ends (Ok report) (after, hosted, tells) = (after, tells)
+tells_from Tells old now moment before news ends (Err fault) h = tt
+
+pub stream_tells : {Told : Type 0} (Tells : Told → ℕ → List ℕ → Fate → Told → Type 0) (old new : Told) (a mid left output written : Option (List ℕ)) (moment : ℤ) (hosts : Config) (report : ServeReport) → OpensStream a mid moment hosts
+    → (after : Box) × TellsAll Tells old new moment (new_box hosts) after (record { input = mid; left = left; output = output; written = written }) report
     → TellsStream Tells old new (record { input = a; left = left; output = output; written = written }) report
-stream_tells Tells old new a mid left output written moment hosts report opens tells = record { moment = moment; hosts = hosts; rest = mid; opens = opens; tells = tells }
+stream_tells Tells old new a mid left output written moment hosts report opens (after, tells) = record { moment = moment; hosts = hosts; rest = mid; after = after; opens = opens; tells = tells }

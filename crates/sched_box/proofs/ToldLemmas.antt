@@ -1,15 +1,9 @@
 -- What became of the objects so far, and who was told of it.
 use Rattle.std.proofs.Common.{◌≡◌, ◌≤◌, ◌+◌, ◌∷◌, ◌++◌, ◌∙◌, ℕ, ℤ, Bool, true, false, if◌then◌else◌, List, [], length, inl, inr, refl, sym, ap, subst, arith}
 use Rattle.std.proofs.lemmas.List.{append_assoc, append-nil}
-use Rattle.profile.specs.events.Messages.{Message}
-use Rattle.profile.specs.rooms.Rooms.{Kind}
-use Rattle.profile.specs.streams.Reports.{Fate, Refused, Unreached, Stale, Repeated, Taken, AllAnswersAs, AllTold, AnswersAs, Becomes, fate_of, refusals}
-use Rattle.profile.specs.streams.Streams.{AllAnswers, Answers, Box}
-
--- how many refusals these are
-abbrev pub all_refusals : List Fate → ℕ
-all_refusals [] = 0
-all_refusals (fate ∷ fates) = refusals fate + all_refusals fates
+use Rattle.profile.specs.events.Messages.{Message, SpellsMessage, is_to_rooms}
+use Rattle.profile.specs.streams.Reports.{Fate, Refused, Unreached, Stale, Repeated, Taken, AllAnswersAs, AllTold, AnswersAs, Becomes, refusals}
+use Rattle.profile.specs.streams.Streams.{Box, IsRefusedWith, Steps, refused_line}
 
 pub at_most_one : (fate : Fate) → refusals fate ≤ 1
 at_most_one (Refused n) = omega arith
@@ -18,13 +12,7 @@ at_most_one Stale = omega arith
 at_most_one Repeated = omega arith
 at_most_one Taken = omega arith
 
-pub refusals_more : (fates : List Fate) (fate : Fate) → all_refusals (fates ++ fate ∷ []) ≡ all_refusals fates + refusals fate
-refusals_more [] fate = omega arith
-refusals_more (first ∷ fates) fate =
-    let rest = refusals_more fates fate in
-    omega (arith, rest)
-
--- ---- the answers, without what became of the objects
+-- ---- one object
 
 none_refused : (moment : ℤ) (message : Message) (before after : Box) (fate : Fate) (to_rooms : Bool) → Becomes to_rooms moment message before after fate → refusals fate ≡ 0
 none_refused moment message before after fate true (kinds, all, is) = ap refusals is ∙ never _ _ _
@@ -36,16 +24,13 @@ none_refused moment message before after fate true (kinds, all, is) = ap refusal
     never false false false = refl
 none_refused moment message before after fate false is = ap refusals is
 
-pub answers_of : (moment : ℤ) (k : ℕ) (object : List ℕ) (before after : Box) (octets : List ℕ) (fate : Fate) → AnswersAs moment k object before after octets fate
-    → Answers moment k object before after octets (refusals fate)
-answers_of moment k object before after octets fate (inl (said, spells, steps, became)) = inl (said, spells, steps, none_refused moment said before after fate _ became)
-answers_of moment k object before after octets fate (inr (n, refuses, same, line, is)) = inr (n, refuses, same, line, ap refusals is)
+pub as_taken : (moment : ℤ) (k : ℕ) (object : List ℕ) (before after : Box) (octets : List ℕ) (fate : Fate) (said : Message) → SpellsMessage object said → Steps moment said before after octets
+    → Becomes (is_to_rooms said.method) moment said before after fate → AnswersAs moment k object before after octets fate
+as_taken moment k object before after octets fate said spells steps became =
+    (inl (said, spells, steps, none_refused moment said before after fate (is_to_rooms said.method) became), inl (said, spells, became))
 
-pub all_answers : (moment : ℤ) (k : ℕ) (objects : List (List ℕ)) (before after : Box) (octets : List ℕ) (fates : List Fate) → AllAnswersAs moment k objects before after octets fates
-    → AllAnswers moment k objects before after octets (all_refusals fates)
-all_answers moment k [] before after octets fates (same, none, nothing) = (same, none, ap all_refusals nothing)
-all_answers moment k (object ∷ objects) before after octets fates (mid, first, rest, fate, others, is, are, one, more) =
-    (mid, first, rest, refusals fate, all_refusals others, is, ap all_refusals are, answers_of moment k object before mid first fate one, all_answers moment (k + 1) objects mid after rest others more)
+pub as_refused : (moment : ℤ) (k : ℕ) (object : List ℕ) (box : Box) (octets : List ℕ) (n : ℕ) → IsRefusedWith box n object → octets ≡ refused_line k n → AnswersAs moment k object box box octets (Refused n)
+as_refused moment k object box octets n refuses line = (inr (n, refuses, refl, line, refl), inr (n, refuses, refl))
 
 -- ---- one more object
 
@@ -62,11 +47,13 @@ as_more moment k (o ∷ os) object before mid after octets more fates fate (box,
     let place : k + length (o ∷ os) ≡ k + 1 + length os = omega arith in
     (box, first, rest ++ more, this, others ++ fate ∷ [], ap (λ z. z ++ more) is ∙ append_assoc first rest more, ap (λ z. z ++ fate ∷ []) are, one, as_more moment (k + 1) os object box mid after rest more others fate those (subst Q place answer))
 
-pub told_more : {Told : Type 0} (Tells : Told → ℕ → Fate → Told → Type 0) (old mid new : Told) (k n : ℕ) (fates : List Fate) (fate : Fate) → AllTold Tells old k fates mid → n ≡ k + length fates
-    → Tells mid n fate new → AllTold Tells old k (fates ++ fate ∷ []) new
-told_more Tells old mid new k n [] fate same is one =
+pub told_more : {Told : Type 0} (Tells : Told → ℕ → List ℕ → Fate → Told → Type 0) (old mid new : Told) (k n : ℕ) (objects : List (List ℕ)) (object : List ℕ) (fates : List Fate) (fate : Fate)
+    → AllTold Tells old k objects fates mid → n ≡ k + length objects → Tells mid n object fate new → AllTold Tells old k (objects ++ object ∷ []) (fates ++ fate ∷ []) new
+told_more Tells old mid new k n [] object [] fate same is one =
     let here : n ≡ k = omega arith in
-    (new, subst (λ z. Tells z k fate new) same (subst (λ z. Tells mid z fate new) here one), refl)
-told_more Tells old mid new k n (first ∷ fates) fate (next, told, more) is one =
-    let there : n ≡ k + 1 + length fates = omega arith in
-    (next, told, told_more Tells next mid new (k + 1) n fates fate more there one)
+    (new, subst (λ z. Tells z k object fate new) same (subst (λ z. Tells mid z object fate new) here one), refl)
+told_more Tells old mid new k n [] object (first ∷ fates) fate told is one = absurd told
+told_more Tells old mid new k n (o ∷ os) object [] fate told is one = absurd told
+told_more Tells old mid new k n (o ∷ os) object (first ∷ fates) fate (next, told, more) is one =
+    let there : n ≡ k + 1 + length os = omega arith in
+    (next, told, told_more Tells next mid new (k + 1) n os object fates fate more there one)

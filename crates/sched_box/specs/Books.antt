@@ -1,7 +1,7 @@
 -- What a box answers to one object.
 use Rattle.std.specs.Prelude.{◌≡◌, ℕ, ℤ, List}
 use Rattle.profile.specs.streams.Reports.{AnswersAs, Becomes, Fate}
-use Rattle.profile.specs.streams.Streams.{Box, Steps, IsRefusedWith}
+use Rattle.profile.specs.streams.Streams.{Answers, Box, Steps, IsRefusedWith}
 use Rattle.profile.specs.events.Messages.{Message, SpellsMessage, is_to_rooms}
 use Rattle.sched_box.specs.Answering.{AreHosted, room_addresses}
 use Rattle.sched_box.specs.Objects.{kept_of}
@@ -33,8 +33,14 @@ TakesKept moment kept old new octets fate =
 abbrev pub RefusesKept : List ℕ → Books → ℕ → Type 0
 RefusesKept kept books n = (object : List ℕ) → kept ≡ kept_of object → (before : Box) → AreBooksOf books before → IsRefusedWith before n object
 
+-- these octets answer object k, which is so many refusals
+abbrev pub AnswersKept : ℤ → ℕ → List ℕ → Books → Books → List ℕ → ℕ → Type 0
+AnswersKept moment k kept old new octets refused =
+    (object : List ℕ) → kept ≡ kept_of object → (before : Box) → AreBooksOf old before
+    → (after : Box) × AreBooksOf new after × Answers moment k object before after octets refused
+
 -- these octets answer object k, and this became of it
-abbrev pub AnswersKept : ℤ → ℕ → List ℕ → Books → Books → List ℕ → Fate → Type 0
-AnswersKept moment k kept old new octets fate =
+abbrev pub AnswersKeptAs : ℤ → ℕ → List ℕ → Books → Books → List ℕ → Fate → Type 0
+AnswersKeptAs moment k kept old new octets fate =
     (object : List ℕ) → kept ≡ kept_of object → (before : Box) → AreBooksOf old before
     → (after : Box) × AreBooksOf new after × AnswersAs moment k object before after octets fate

@@ -5,8 +5,8 @@ pub mod Boxes
 pub mod Config
 pub mod Faults
 pub mod FileNames
-pub mod Meetings
 pub mod Journal
+pub mod Meetings
 pub mod Objects
 pub mod Organising
 pub mod Preamble
@@ -15,3 +15,4 @@ pub mod Schedules
 pub mod Sending
 pub mod Serving
 pub mod Settings
+pub mod Telling

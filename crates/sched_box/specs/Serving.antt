@@ -12,7 +12,7 @@ use Rattle.sched_box.specs.declared.fault.StreamFault.{StreamFault}
 use Rattle.sched_box.specs.declared.fault.StreamFault.TheVariants.{Refused, Serve}
 use Rattle.sched_box.specs.Books.{AreBooksOf}
 use Rattle.sched_box.specs.declared.books.Books.{Books}
-use Rattle.sched_box.specs.Objects.{IsPieceFault}
+use Rattle.sched_box.specs.Objects.{IsPieceFault, kept_of}
 use Rattle.sched_box.specs.Preamble.{OpensStream, OpensNot, StopsInPreamble}
 
 -- what a reader and a writer held and have, where it is known
@@ -161,22 +161,23 @@ StopsKeeping input left (Serve Memory) = IsWithinBound input left
 
 -- ---- who is told of each object
 
--- all objects were taken, and the answers to them written; each of them was told, with what became of it by these steps, and they were counted
-pub record TellsAll {Told : Type 0} (Tells : Told → ℕ → Fate → Told → Type 0) (old new : Told) (moment : ℤ) (before : Box) (ends : Ends) (report : ServeReport) : Type 0 where
+-- All objects were taken, and the answers to them written; each of them was told, as far as it is kept, with what became of it by these steps, and
+-- they were counted.
+pub record TellsAll {Told : Type 0} (Tells : Told → ℕ → List ℕ → Fate → Told → Type 0) (old new : Told) (moment : ℤ) (before after : Box) (ends : Ends) (report : ServeReport) : Type 0 where
   pub objects : List (List ℕ)
-  pub after : Box
   pub octets : List ℕ
   pub fates : List Fate
   pub are : IfSome ends.input (λ stream. AreObjects stream objects)
   pub answers : AllAnswersAs moment 1 objects before after octets fates
   pub written : Appends ends.output ends.written octets
-  pub told : AllTold Tells old 1 fates new
+  pub told : AllTold (λ first k object fate next. Tells first k (kept_of object) fate next) old 1 objects fates new
   pub counted : report.objects ≡ length objects
 
 -- the same of a stream with its preamble
-pub record TellsStream {Told : Type 0} (Tells : Told → ℕ → Fate → Told → Type 0) (old new : Told) (ends : Ends) (report : ServeReport) : Type 0 where
+pub record TellsStream {Told : Type 0} (Tells : Told → ℕ → List ℕ → Fate → Told → Type 0) (old new : Told) (ends : Ends) (report : ServeReport) : Type 0 where
   pub moment : ℤ
   pub hosts : Config
   pub rest : Option (List ℕ)
+  pub after : Box
   pub opens : OpensStream ends.input rest moment hosts
-  pub tells : TellsAll Tells old new moment (new_box hosts) (record ends { input = rest }) report
+  pub tells : TellsAll Tells old new moment (new_box hosts) after (record ends { input = rest }) report

@@ -35,7 +35,7 @@ impl Books {
     ghost use Rattle.ical_values.specs.Octets.{address_octets};
     ghost use Rattle.ical_values.specs.Refused.{IfRefused};
     ghost use Rattle.profile.specs.streams.Streams.{Box, new_box};
-    ghost use Rattle.sched_box.specs.Books.{AnswersKept, AreBooksOf, KeepAll, RefusesKept, TakesKept, hosted_rooms};
+    ghost use Rattle.sched_box.specs.Books.{AnswersKeptAs, AreBooksOf, KeepAll, RefusesKept, TakesKept, hosted_rooms};
     ghost use Rattle.sched_box.specs.Config.{config_hosts, config_rooms};
     ghost use Rattle.sched_box.specs.Journal.{fate_said};
     ghost use Rattle.sched_box.specs.Organising.{organiser_addresses};
@@ -82,7 +82,7 @@ impl Books {
         answers: &mut Vec<u8>,
     ) -> Result<Fate, ServeFault>
         ensures answers { IfOk result (λ fate. (more : List ℕ) × (answers.new.items ≡ answers.old.items ++ more)
-            × AnswersKept now number octets.now self.old self.new more (fate_said fate)) }
+            × AnswersKeptAs now number octets.now self.old self.new more (fate_said fate)) }
         ensures addresses { IfOk result (λ _. hosted_rooms self.new ≡ hosted_rooms self.old) }
         ensures memory { IfErr result (λ fault. fault ≡ ServeFault.Memory) }
     {

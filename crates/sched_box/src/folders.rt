@@ -7,6 +7,7 @@ ghost use Rattle.sched_devices.specs.declared.folder.FolderFault.TheVariants as 
 ghost use Rattle.sched_box.specs.Boxes.{HasRisen, IsNoDifference, Runs};
 ghost use Rattle.sched_box.specs.Config.{config_hosts};
 ghost use Rattle.sched_box.specs.Running.{AnswersMessage, AnswersOctets, AreApart, AreRising, GoesOn, IsGained, IsWhole, LeavesHeld, MayGain, RunsOver, Settles, answers_name, box_fault, file_of};
+ghost use Rattle.sched_box.specs.Telling.{FilesTold, IsNew, TellsInbox, TellsOctets};
 ghost use Rattle.sched_box.specs.declared.folders.BoxFault.TheVariants.{Device, Differs, Memory};
 
 use crate::books::Books;
@@ -158,6 +159,7 @@ fn answers_of<I: Folder, J: Journal>(
 ) -> Result<Vec<u8>, BoxFault>
     requires { I.is_known inbox.old ≡ true → IsMessageFile (I.image inbox.old) (file_of (I.image inbox.old) file.now) }
     ensures answers { IfOk result (λ answers. I.is_known inbox.old ≡ true → AnswersMessage (I.image inbox.old) file.now books.old books.new answers.items) }
+    ensures tells { IfOk result (λ answers. I.is_known inbox.old ≡ true → TellsOctets J.tells journal.old journal.new file.now.moment (file_of (I.image inbox.old) file.now).octets books.old books.new answers.items) }
     ensures no_difference { IfErr result IsNoDifference }
     ensures kept { IsKept I.is_known I.image I.temporary I.may_leave inbox.old inbox.new }
     ensures later { I.failed inbox.old ≤ I.failed inbox.new }
@@ -178,6 +180,7 @@ fn answers_to<J: Journal>(
 ) -> Result<Vec<u8>, BoxFault>
     requires { length octets.now ≤ 1_073_741_824 }
     ensures answers { IfOk result (λ answers. AnswersOctets moment octets.now books.old books.new answers.items) }
+    ensures tells { IfOk result (λ answers. TellsOctets J.tells journal.old journal.new moment octets.now books.old books.new answers.items) }
     ensures memory { IfErr result (λ fault. fault ≡ Memory) }
 {
     let mut reader = octets;
@@ -310,13 +313,15 @@ fn answer_all<I: Folder, O: Folder, J: Journal>(
     ensures later { (I.failed inbox.old ≤ I.failed inbox.new) × (O.failed outbox.old ≤ O.failed outbox.new) }
     ensures cause { IsErrOf result Device → HasRisen (I.failed inbox.old) (I.failed inbox.new) ⊎ HasRisen (O.failed outbox.old) (O.failed outbox.new) }
     ensures told { (IsErrOf result Device → ⊥) → (I.failed inbox.new ≡ I.failed inbox.old) × (O.failed outbox.new ≡ O.failed outbox.old) }
+    ensures tells { OnOk result (I.is_known inbox.old ≡ true → FilesTold J.begins J.tells (I.image inbox.old) (map string_bytes theirs.now) journal.old files.now books.old books.new journal.new) }
 {
     let mut report = BoxReport {
         files: 0,
         written: 0,
     };
     for file in files {
-        journal.begin(file.name(), is_unanswered(alloc, theirs, file));
+        let has_none = is_unanswered(alloc, theirs, file)?;
+        journal.begin(file.name(), has_none);
         let answers = answers_of(alloc, inbox, books, file, journal)?;
         let is_new = settle(alloc, outbox, theirs, file, &answers)?;
         report = report.with_file(is_new);
@@ -324,14 +329,18 @@ fn answer_all<I: Folder, O: Folder, J: Journal>(
     Ok(report)
 }
 
-/// Whether the outbox hasn't the answers to a message yet; also where memory for their name is refused.
-fn is_unanswered(alloc: Global, theirs: &[String], file: &MessageName) -> bool
+/// Whether the outbox hasn't the answers to a message yet.
+fn is_unanswered(
+    alloc: Global,
+    theirs: &[String],
+    file: &MessageName,
+) -> Result<bool, AllocError>
     requires { AreRising (map string_bytes theirs.now) }
+    ensures { IfOk result (IsNew (map string_bytes theirs.now) file.now) }
 {
-    match file.answer_name(alloc) {
-        Ok(name) => !is_among(theirs, name.as_str()),
-        Err(_) => true,
-    }
+    let name = file.answer_name(alloc)?;
+    let is_there = is_among(theirs, name.as_str());
+    Ok(!is_there)
 }
 
 impl BoxReport {
@@ -388,6 +397,8 @@ pub fn run_box_telling<I: Folder, O: Folder, J: Journal>(
     ensures runs { I.is_known inbox.old ≡ true → O.is_known outbox.old ≡ true → LosesNamesAlone (O.image outbox.old) (O.may_leave outbox.old)
         → Runs (I.image inbox.old) (config_hosts config.now) (record { start = O.image outbox.old; now = O.image outbox.new; first = O.moment outbox.old; last = O.moment outbox.new })
         (O.may_leave outbox.old) (O.may_leave outbox.new) (O.left_since outbox.new) result }
+    ensures tells { I.is_known inbox.old ≡ true → O.is_known outbox.old ≡ true
+        → OnOk result (TellsInbox J.begins J.tells journal.old journal.new (I.image inbox.old) (O.image outbox.old) (config_hosts config.now)) }
 {
     sync_names(outbox)?;
     let files = message_files(alloc, inbox)?;

@@ -1,6 +1,6 @@
 //! What became of each object of a stream, and who is told of it.
 
-ghost use Rattle.std.specs.Prelude.{◌≡◌, ◌∷◌, ◌++◌, ◌||◌, ℕ, List, []};
+ghost use Rattle.std.specs.Prelude.{◌≡◌, ◌≤◌, ◌∷◌, ◌++◌, ◌||◌, ℕ, Bool, List, []};
 ghost use Rattle.profile.specs.rooms.Rooms.{Kind as SaidKind};
 ghost use Rattle.profile.specs.streams.Reports.{Fate as SaidFate, fate_of, is_change, is_repeat, is_stale, refusals};
 ghost use Rattle.room_books.specs.Taking.{kind_view};
@@ -27,7 +27,8 @@ pub enum Fate {
 impl Fate {
     /// How many refusals that is: 0 or 1.
     pub fn refusals(self) -> u64
-        ensures { result ≡ refusals (fate_said self) }
+        ensures value { result ≡ refusals (fate_said self) }
+        ensures few { result ≤ 1 }
     {
         match self {
             Fate::Refused(_) => 1,
@@ -39,15 +40,19 @@ impl Fate {
 /// One who is told of each object what became of it, after its answers are written. A call can't fail: who keeps what it is told says later
 /// whether that went well.
 pub trait Journal {
-    // One call leads from the value before to the value after: of the object of this number this is told.
-    ghost tells: { Self → ℕ → SaidFate → Self → Type 0 };
+    // One call leads from the value before to the value after: of the file of this name it is told whether it is new,
+    ghost begins: { Self → List ℕ → Bool → Self → Type 0 };
+
+    // or of the object of this number, which is these octets, what became of it.
+    ghost tells: { Self → ℕ → List ℕ → SaidFate → Self → Type 0 };
 
     /// The objects of the file of this name come next, counted from 1: those of one that wasn't answered before, or of one that was.
-    fn begin(&mut self, name: &str, is_new: bool);
+    fn begin(&mut self, name: &str, is_new: bool)
+        ensures { Self.begins self.old name.now is_new self.new };
 
     /// What became of the object of this number, which is these octets: its first 1,048,577 at most.
     fn tell(&mut self, number: u64, octets: &[u8], fate: Fate)
-        ensures { Self.tells self.old number (fate_said fate) self.new };
+        ensures { Self.tells self.old number octets.now (fate_said fate) self.new };
 }
 
 /// Nobody is told.
@@ -55,7 +60,9 @@ pub trait Journal {
 pub struct Nobody;
 
 impl Journal for Nobody {
-    ghost tells = { λ _ _ _ _. Unit {0} };
+    ghost begins = { λ _ _ _ _. Unit {0} };
+
+    ghost tells = { λ _ _ _ _ _. Unit {0} };
 
     fn begin(&mut self, _name: &str, _is_new: bool) {}
 

@@ -119,8 +119,8 @@ fn serve_telling<R: Input, W: Output, J: Journal>(
     ensures fills { IsFilledWithin 2 (R.fills reader.old) (R.fills reader.new) (R.remaining reader.old) (R.remaining reader.new) }
     ensures serves { Serves now (new_box (config_hosts config.now))
         (record { input = R.remaining reader.old; left = R.remaining reader.new; output = W.contents writer.old; written = W.contents writer.new }) result }
-    ensures tells { IfOk result (TellsAll J.tells journal.old journal.new now (new_box (config_hosts config.now))
-        (record { input = R.remaining reader.old; left = R.remaining reader.new; output = W.contents writer.old; written = W.contents writer.new })) }
+    ensures tells { IfOk result (λ report. (after : Box) × TellsAll J.tells journal.old journal.new now (new_box (config_hosts config.now)) after
+        (record { input = R.remaining reader.old; left = R.remaining reader.new; output = W.contents writer.old; written = W.contents writer.new }) report) }
 {
     let mut books = Books::new(alloc, config)?;
     serve_objects(alloc, &mut books, reader, writer, now, MOST_OCTETS, journal)
@@ -202,8 +202,9 @@ pub(crate) fn serve_objects<R: Input, W: Output, J: Journal>(
     ensures bound { IfErr result (StopsWithin most (R.remaining reader.old) (R.remaining reader.new)) }
     ensures serves { (before : Box) → AreBooksOf books.old before → BooksServe most now before books.new
         (record { input = R.remaining reader.old; left = R.remaining reader.new; output = W.contents writer.old; written = W.contents writer.new }) result }
-    ensures tells { (before : Box) → AreBooksOf books.old before → IfOk result (TellsAll J.tells journal.old journal.new now before
-        (record { input = R.remaining reader.old; left = R.remaining reader.new; output = W.contents writer.old; written = W.contents writer.new })) }
+    ensures tells { (before : Box) → AreBooksOf books.old before → IfOk result (λ report. (after : Box) × AreBooksOf books.new after
+        × TellsAll J.tells journal.old journal.new now before after
+        (record { input = R.remaining reader.old; left = R.remaining reader.new; output = W.contents writer.old; written = W.contents writer.new }) report) }
 {
     let mut report = ServeReport {
         objects: 0,

@@ -1,4 +1,4 @@
-use Rattle.std.proofs.Common.{◌≡◌, ◌∙◌, ◌+◌, ◌++◌, ◌∷◌, [], List, ℕ, Bool, true, refl, take, sym, ap, subst, arith, Contains}
+use Rattle.std.proofs.Common.{◌≡◌, ◌∙◌, ◌+◌, ◌++◌, ◌∷◌, [], List, ℕ, Bool, true, refl, take, take_all, map, sym, ap, subst, arith, Contains, string_bytes}
 use Rattle.std.proofs.lemmas.Grind.{common_steps}
 use Rattle.std.proofs.lemmas.List.{take_more}
 use Rattle.sched_box.specs.declared.books.Books.{Books}
@@ -6,6 +6,9 @@ use Rattle.std.proofs.lemmas.Result.{err_from_is_err_and}
 use Rattle.profile.specs.streams.Folders.{Image, IsMessageFile}
 use Rattle.sched_box.specs.Running.{AnswersMessage, HasAnswered, LeavesHeld, answers_name, file_of}
 use Rattle.sched_box.specs.declared.file_names.MessageName.{MessageName}
+use Rattle.sched_box.specs.declared.folders.BoxFault.TheVariants.{Memory}
+use Rattle.sched_box.specs.Telling.{FilesTold, TellsOctets}
+use Rattle.sched_box.proofs.TellingLemmas.{file_told}
 use Rattle.cal_events.proofs.shared_lemmas.InOneOrder.{in_mapped}
 use Rattle.sched_box.proofs.FolderLemmas.{ended_between, free_where_not, held_where_listed, kept_on, never_failed, none_is, not_named, run_ended, settled_last, settled_more}
 use Rattle.sched_box.proofs.folders.answer_all.Goals as goal
@@ -19,9 +22,15 @@ answers_of-requires g c = λ known.
     let are = c.requires.messages (sym c.loop-file.invariant.inbox_kept.known ∙ known) in
     subst P (sym same) (are.each _ (in_mapped (file_of (g.I.Folder.image c.args.inbox.now)) c.args.files.now name among))
 
+pub returns-in_err-has_none-clause-runs : goal.returns-in_err-has_none-clause-runs
+returns-in_err-has_none-clause-runs g c = λ known.
+    let p = err_from_is_err_and c.from_residual.result c.from_residual.ensures.1 in
+    run_ended _ _ _ _ _ _ _ _ _ _ _ Memory p.1 p.2
+    (ended_between _ c.args.files.now c.loop-file.file-index _ c.loop-file.books _ _ _ _ _ _ c.loop-file.report Memory refl (c.loop-file.invariant.so known) tt)
+
 pub returns-in_err-answers-clause-runs : goal.returns-in_err-answers-clause-runs
 returns-in_err-answers-clause-runs g c = λ known.
-    let p = err_from_is_err_and c.from_residual.result c.from_residual.ensures.1 in
+    let p = err_from_is_err_and c.from_residual-in_err-answers.result c.from_residual-in_err-answers.ensures.1 in
     run_ended _ _ _ _ _ _ _ _ _ _ _ c.in_err-answers.field-0.0 p.1 p.2
     (ended_between _ c.args.files.now c.loop-file.file-index _ c.loop-file.books _ _ _ _ _ _ c.loop-file.report _ refl (c.loop-file.invariant.so known) c.in_err-answers.ensures.no_difference)
 
@@ -86,4 +95,15 @@ loop-file-preserved g c =
           l c.answers_of.new.books (g.O.Folder.image c.settle.new.outbox) (g.O.Folder.moment c.settle.new.outbox) (LeavesHeld (g.O.Folder.image c.args.outbox.now) (g.O.Folder.may_leave c.args.outbox.now))
           (g.O.Folder.left_since c.args.outbox.now) (g.O.Folder.left_since c.settle.new.outbox) (g.O.Folder.may_leave c.settle.new.outbox) c.with_file-report.result in
           subst P (sym front) more;
+      files_told =
+          file_told g.J.Journal.begins g.J.Journal.tells (g.I.Folder.image c.args.inbox.now) (g.I.Folder.image c.loop-file.inbox) _ _ _ c.args.journal.now (take (i + 1) files) (take i files) name c.args.books.now c.loop-file.books c.answers_of.new.books
+          c.loop-file.journal c.begin.new.self c.answers_of.new.journal c.in_ok-has_none.has_none c.name.result.now c.deref.result.now
+          front c.name.ensures inv.inbox_kept.known inv.inbox_kept.same inv.files_told c.begin.ensures c.in_ok-has_none.ensures
+          (λ known. subst (λ o. TellsOctets g.J.Journal.tells c.begin.new.self c.answers_of.new.journal name.moment (file_of (g.I.Folder.image c.loop-file.inbox) name).octets c.loop-file.books c.answers_of.new.books o) (sym c.deref.ensures.value) (c.in_ok-answers.ensures.tells known));
     }
+
+pub returns-clause-tells : goal.returns-clause-tells
+returns-clause-tells g c = λ known.
+    let inv = c.loop-file.invariant in
+    let P : List MessageName → Type 0 = λ l. FilesTold g.J.Journal.begins g.J.Journal.tells (g.I.Folder.image c.args.inbox.now) (map string_bytes c.args.theirs.now) c.args.journal.now l c.args.books.now c.loop-file.books c.loop-file.journal in
+    subst P (take_all c.loop-file.file-index c.args.files.now (omega arith)) (inv.files_told known)

@@ -6,6 +6,7 @@ use Rattle.sched_box.specs.Running.{AnswersMessage, AnswersOctets}
 use Rattle.sched_box.specs.declared.books.Books.{Books}
 use Rattle.sched_box.specs.declared.file_names.MessageName.{MessageName}
 use Rattle.sched_box.specs.declared.folders.BoxFault.{BoxFault}
+use Rattle.sched_box.proofs.TellingLemmas.{message_told}
 use Rattle.sched_box.proofs.folders.answers_of.Goals as goal
 
 -- the answers to the octets of a message are those to the message
@@ -25,3 +26,9 @@ returns-clause-answers g c =
     let image = g.I.Folder.image c.args.inbox.now in
     message_answered (g.I.Folder.is_known c.args.inbox.now) image c.args.file.now c.args.books.now c.answers_to.new.books c.deref.result.now c.answers_to.result c.moment.result c.moment.ensures
     (λ known. ap image (sym c.name.ensures) ∙ c.in_ok-octets.ensures.bytes known ∙ ap Some (sym c.deref.ensures.value)) c.answers_to.ensures.answers
+
+pub returns-clause-tells : goal.returns-clause-tells
+returns-clause-tells g c =
+    let image = g.I.Folder.image c.args.inbox.now in
+    message_told g.J.Journal.tells c.args.journal.now c.answers_to.new.journal (g.I.Folder.is_known c.args.inbox.now) image c.args.file.now c.args.books.now c.answers_to.new.books c.deref.result.now c.answers_to.result c.moment.result c.moment.ensures
+    (λ known. ap image (sym c.name.ensures) ∙ c.in_ok-octets.ensures.bytes known ∙ ap Some (sym c.deref.ensures.value)) c.answers_to.ensures.tells

@@ -1,10 +1,11 @@
-use Rattle.std.proofs.Common.{◌≡◌, ◌∙◌, List, map, sym, subst, arith}
-use Rattle.profile.specs.streams.Folders.{AreMessageFiles, Image}
+use Rattle.std.proofs.Common.{◌≡◌, ◌∙◌, List, String, map, string_bytes, sym, subst, arith}
+use Rattle.profile.specs.streams.Folders.{AreMessageFiles, AreNames, Image}
 use Rattle.sched_box.specs.Boxes.{Runs}
 use Rattle.sched_box.specs.Config.{config_hosts}
 use Rattle.sched_box.specs.Running.{LeavesHeld, file_of}
 use Rattle.sched_box.specs.declared.file_names.MessageName.{MessageName}
 use Rattle.sched_box.proofs.FolderLemmas.{leaves_synced, run_over, stops_between}
+use Rattle.sched_box.proofs.TellingLemmas.{inbox_told, on_ok_then}
 use Rattle.sched_box.proofs.folders.run_box_telling.Goals as goal
 
 pub returns-clause-runs : goal.returns-clause-runs
@@ -34,3 +35,17 @@ returns-clause-runs g c = λ in_known out_known loses.
     let In : Image → Type 0 = λ i. Runs i hosts (record { start = image; now = g.O.Folder.image s3; first = g.O.Folder.moment s0; last = g.O.Folder.moment s3 }) (g.O.Folder.may_leave s0) (g.O.Folder.may_leave s3) (g.O.Folder.left_since s3) c.answer_all.result in
     let Out : Image → Type 0 = λ i. Runs (g.I.Folder.image c.args.inbox.now) hosts (record { start = i; now = g.O.Folder.image s3; first = g.O.Folder.moment s0; last = g.O.Folder.moment s3 }) (g.O.Folder.may_leave s0) (g.O.Folder.may_leave s3) (g.O.Folder.left_since s3) c.answer_all.result in
     subst Out same (subst In messages.kept.same runs)
+
+pub returns-clause-tells : goal.returns-clause-tells
+returns-clause-tells g c = λ in_known out_known.
+    let synced = c.in_ok-sync_names.ensures in
+    let listed = c.in_ok-theirs.ensures in
+    let messages = c.in_ok-files.ensures in
+    let inbox = g.I.Folder.image c.args.inbox.now in
+    let outbox = g.O.Folder.image c.args.outbox.now in
+    let named = g.O.Folder.image c.sync_names.new.place in
+    let Files : List MessageName → Type 0 = λ files. AreMessageFiles inbox (map (file_of inbox) files) in
+    let Names : List String → Type 0 = λ names. AreNames named (map string_bytes names) in
+    inbox_told g.J.Journal.begins g.J.Journal.tells c.args.journal.now c.answer_all.new.journal inbox (g.I.Folder.image c.message_files.new.inbox) outbox named (config_hosts c.args.config.now) c.deref.result.now (map string_bytes c.deref-2.result.now) c.in_ok-books.books c.answer_all.new.books c.answer_all.result
+    messages.kept.same synced.kept.same (subst Files (sym c.deref.ensures.value) (messages.messages in_known)) (subst Names (sym c.deref-2.ensures.value) (listed.names (synced.kept.known ∙ out_known))) c.in_ok-books.ensures.kept
+    (on_ok_then c.answer_all.result _ _ (λ told. told (messages.kept.known ∙ in_known)) c.answer_all.ensures.tells)

@@ -1,0 +1,84 @@
+-- Who is told of one file after another.
+use Rattle.std.proofs.Common.{◌≡◌, ◌↔◌, ◌∙◌, ◌∷◌, ◌++◌, ℕ, ℤ, Bool, true, false, not, List, [], map, Option, Some, Contains, IfOk, IsTrue, OnOk, Result, Ok, Err, Vec, Global, string_bytes, refl, sym, ap, subst, true≢false}
+use Rattle.std.specs.Option.{unwrap_or}
+use Rattle.profile.specs.streams.Folders.{AreMessageFiles, AreNames, Image}
+use Rattle.profile.specs.streams.Reports.{AllAnswersAs, AllTold, Fate}
+use Rattle.profile.specs.streams.Streams.{AreObjects, Box, Config, new_box}
+use Rattle.sched_box.specs.Books.{AreBooksOf}
+use Rattle.sched_box.specs.Running.{answers_name, file_of}
+use Rattle.sched_box.specs.Serving.{TellsAll}
+use Rattle.sched_box.specs.Telling.{AllFilesTold, FilesTold, IsNew, TellsInbox, TellsObjects, TellsOctets}
+use Rattle.sched_box.specs.declared.books.Books.{Books}
+use Rattle.sched_box.specs.declared.file_names.MessageName.{MessageName}
+use Rattle.sched_box.specs.declared.folders.BoxFault.{BoxFault}
+use Rattle.sched_box.specs.declared.folders.BoxReport.{BoxReport}
+use Rattle.sched_box.specs.declared.serving.ServeReport.{ServeReport}
+
+-- ---- one file
+
+-- of octets that were served to a list, from nothing on
+pub octets_told : {Told : Type 0} (Tells : Told → ℕ → List ℕ → Fate → Told → Type 0) (old new : Told) (moment : ℤ) (octets : List ℕ) (before : Box) (news : Books) (left : Option (List ℕ)) (first sent : List ℕ) (report : ServeReport) → first ≡ []
+    → (after : Box) × AreBooksOf news after × TellsAll Tells old new moment before after (record { input = Some octets; left = left; output = Some first; written = Some sent }) report
+    → (after : Box) × AreBooksOf news after × TellsObjects Tells old new moment octets before after sent
+octets_told Tells old new moment octets before news left first sent report none (after, hosted, tells) =
+    let is : sent ≡ tells.octets = tells.written ∙ ap (λ z. z ++ tells.octets) none in
+    let P : List ℕ → Type 0 = λ z. AllAnswersAs moment 1 tells.objects before after z tells.fates in
+    (after, hosted, record { objects = tells.objects; fates = tells.fates; are = tells.are; became = subst P (sym is) tells.answers; told = tells.told })
+
+-- the octets of a message are those that the inbox holds under its name
+pub message_told : {Told : Type 0} (Tells : Told → ℕ → List ℕ → Fate → Told → Type 0) (old new : Told) (known : Bool) (image : Image) (name : MessageName) (olds news : Books) (octets : List ℕ) (r : Result (Vec ℕ Global) BoxFault) (moment : ℤ)
+    → moment ≡ name.moment → (known ≡ true → image (string_bytes name.name) ≡ Some octets) → IfOk r (λ answers. TellsOctets Tells old new moment octets olds news answers.items)
+    → IfOk r (λ answers. known ≡ true → TellsOctets Tells old new name.moment (file_of image name).octets olds news answers.items)
+message_told Tells old new known image name olds news octets (Err e) moment same held h = tt
+message_told Tells old new known image name olds news octets (Ok answers) moment same held h = λ t.
+    let is : octets ≡ unwrap_or (image (string_bytes name.name)) [] = sym (ap (λ o. unwrap_or o []) (held t)) in
+    let P : List ℕ → Type 0 = λ o. TellsOctets Tells old new name.moment o olds news answers.items in
+    let Q : ℤ → Type 0 = λ m. TellsOctets Tells old new m octets olds news answers.items in
+    subst P is (subst Q same h)
+
+pub not_among : (b : Bool) (P : Type 0) → (IsTrue b ↔ P) → IsTrue (not b) ↔ (P → ⊥)
+not_among true P h = (λ e p. absurd (true≢false (sym e)), λ no. absurd (no (h.0 refl)))
+not_among false P h = (λ e p. absurd (true≢false (sym (h.1 p))), λ no. refl)
+
+pub on_ok_then : {T E : Type 0} (r : Result T E) (P Q : Type 0) → (P → Q) → OnOk r P → OnOk r Q
+on_ok_then (Ok x) P Q then h = then h
+on_ok_then (Err e) P Q then h = tt
+
+-- ---- one more file
+
+pub no_file_told : {Told : Type 0} (Begins : Told → List ℕ → Bool → Told → Type 0) (Tells : Told → ℕ → List ℕ → Fate → Told → Type 0) (inbox : Image) (theirs : List (List ℕ)) (old : Told) (books : Books)
+    → FilesTold Begins Tells inbox theirs old [] books books old
+no_file_told Begins Tells inbox theirs old books before have = (before, have, (refl, refl))
+
+told_behind : {Told : Type 0} (Begins : Told → List ℕ → Bool → Told → Type 0) (Tells : Told → ℕ → List ℕ → Fate → Told → Type 0) (inbox : Image) (theirs : List (List ℕ)) (old : Told) (names : List MessageName) (name : MessageName) (before mid after : Box) (so begun new : Told) (is_new : Bool) (answers : List ℕ)
+    → AllFilesTold Begins Tells inbox theirs old names before mid so → Begins so (string_bytes name.name) is_new begun → IsNew theirs name is_new
+    → TellsObjects Tells begun new name.moment (file_of inbox name).octets mid after answers → AllFilesTold Begins Tells inbox theirs old (names ++ name ∷ []) before after new
+told_behind {Told} Begins Tells inbox theirs old [] name before mid after so begun new is_new answers (same, here) begins is tells =
+    let P : Told → Type 0 = λ z. Begins z (string_bytes name.name) is_new begun in
+    let Q : Box → Type 0 = λ b. TellsObjects Tells begun new name.moment (file_of inbox name).octets b after answers in
+    (begun, new, is_new, after, answers, subst P same begins, is, subst Q here tells, (refl, refl))
+told_behind Begins Tells inbox theirs old (n ∷ ns) name before mid after so begun new is_new answers (b, m, flag, box, sent, one, two, three, more) begins is tells =
+    (b, m, flag, box, sent, one, two, three, told_behind Begins Tells inbox theirs m ns name box mid after so begun new is_new answers more begins is tells)
+
+pub file_told : {Told : Type 0} (Begins : Told → List ℕ → Bool → Told → Type 0) (Tells : Told → ℕ → List ℕ → Fate → Told → Type 0) (inbox image : Image) (known known' : Bool) (theirs : List (List ℕ)) (old : Told) (all names : List MessageName) (name : MessageName) (olds news newer : Books) (so begun new : Told) (is_new : Bool) (flag_name : List ℕ) (answers : List ℕ)
+    → all ≡ names ++ name ∷ [] → flag_name ≡ string_bytes name.name → known ≡ known' → image ≡ inbox → (known' ≡ true → FilesTold Begins Tells inbox theirs old names olds news so) → Begins so flag_name is_new begun → IsNew theirs name is_new
+    → (known ≡ true → TellsOctets Tells begun new name.moment (file_of image name).octets news newer answers) → known' ≡ true → FilesTold Begins Tells inbox theirs old all olds newer new
+file_told {Told} Begins Tells inbox image known known' theirs old all names name olds news newer so begun new is_new flag_name answers all_is name_is known_is image_is sofar begins is tells t before have =
+    let (mid, hosted, told) = sofar t before have in
+    let P : Image → Type 0 = λ i. TellsOctets Tells begun new name.moment (file_of i name).octets news newer answers in
+    let (after, hosted', objects) = subst P image_is (tells (known_is ∙ t)) mid hosted in
+    let Q : List MessageName → Type 0 = λ l. AllFilesTold Begins Tells inbox theirs old l before after new in
+    let R : List ℕ → Type 0 = λ n. Begins so n is_new begun in
+    (after, hosted', subst Q (sym all_is) (told_behind Begins Tells inbox theirs old names name before mid after so begun new is_new answers told (subst R name_is begins) is objects))
+
+-- ---- the whole inbox
+
+pub inbox_told : {Told : Type 0} (Begins : Told → List ℕ → Bool → Told → Type 0) (Tells : Told → ℕ → List ℕ → Fate → Told → Type 0) (old new : Told) (inbox image outbox now : Image) (hosts : Config) (names : List MessageName) (theirs : List (List ℕ)) (olds news : Books) (r : Result BoxReport BoxFault)
+    → image ≡ inbox → now ≡ outbox → AreMessageFiles inbox (map (file_of inbox) names) → AreNames now theirs → AreBooksOf olds (new_box hosts)
+    → OnOk r (FilesTold Begins Tells image theirs old names olds news new) → OnOk r (TellsInbox Begins Tells old new inbox outbox hosts)
+inbox_told Begins Tells old new inbox image outbox now hosts names theirs olds news (Err e) same held messages there have h = tt
+inbox_told Begins Tells old new inbox image outbox now hosts names theirs olds news (Ok report) same held messages there have h =
+    let P : Image → Type 0 = λ i. FilesTold Begins Tells i theirs old names olds news new in
+    let (after, hosted, told) = subst P same h (new_box hosts) have in
+    let Q : Image → Type 0 = λ i. AreNames i theirs in
+    record { names = names; theirs = theirs; after = after; messages = messages; there = subst Q held there; told = told }
