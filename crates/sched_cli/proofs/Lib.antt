@@ -12,5 +12,4 @@ pub mod RefusedLemmas
 pub mod RunningLemmas
 pub mod Saying
 pub mod Showing
-pub mod ShownLemmas
 pub mod Taken

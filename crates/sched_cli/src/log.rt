@@ -1,9 +1,8 @@
 //! `--report`: says of each object that came to nothing what became of it, in a line of its own.
 
-ghost use Rattle.std.specs.Prelude.{◌≡◌, ◌++◌, ◌<◌, ℕ, List, [], Option, None, decimal, codes, true, false, IfOk, OnOk};
-ghost use Rattle.std.specs.List.{list_all};
+ghost use Rattle.std.specs.Prelude.{◌≡◌, ◌++◌, ℕ, List, [], None, decimal, codes, false, IfOk, OnOk};
 ghost use Rattle.sched_box.specs.Journal.{fate_said};
-ghost use Rattle.sched_cli.specs.Logging.{IsObjectLine, LogTells, fate_words, is_shown, is_taken};
+ghost use Rattle.sched_cli.specs.Logging.{IsObjectLine, LogBegins, LogTells, fate_words, first_fault, header_text, is_due, is_taken, place_words, shown, value_text};
 
 use crate::header::Header;
 use crate::shown::{append_cut, append_shown};
@@ -50,39 +49,51 @@ impl<L: Output> Log<L> {
 }
 
 impl<L: Output> Journal for Log<L> {
-    ghost tells = { λ old k fate new. (new.file.items ≡ old.file.items) × (new.is_quiet ≡ old.is_quiet)
-        × LogTells old.file.items old.is_quiet old.fault (L.contents old.to) k fate new.fault (L.contents new.to) };
+    ghost begins = { λ old name is_new new. LogBegins (record { file = old.file.items; is_quiet = old.is_quiet; fault = old.fault; written = L.contents old.to; has_failed = L.has_failed old.to }) name is_new
+        (record { file = new.file.items; is_quiet = new.is_quiet; fault = new.fault; written = L.contents new.to; has_failed = L.has_failed new.to }) };
+
+    ghost tells = { λ old k _ fate new. LogTells (record { file = old.file.items; is_quiet = old.is_quiet; fault = old.fault; written = L.contents old.to; has_failed = L.has_failed old.to }) k fate
+        (record { file = new.file.items; is_quiet = new.is_quiet; fault = new.fault; written = L.contents new.to; has_failed = L.has_failed new.to }) };
 
     fn begin(&mut self, name: &str, is_new: bool) {
         self.is_quiet = !is_new;
-        match file_text(self.alloc, name) {
-            Ok(file) => self.file = file,
-            Err(_) => self.fault = first_fault(self.fault, WriteFault::Memory),
-        }
+        let Ok(file) = file_text(self.alloc, name) else {
+            self.fault = first_fault(self.fault, WriteFault::Memory);
+            return;
+        };
+        self.file = file;
     }
 
     fn tell(&mut self, number: u64, octets: &[u8], fate: Fate) {
-        if self.is_quiet || is_taken(fate) {
+        if !is_due(self.is_quiet, fate) {
             return;
         }
         let Ok(line) = object_line(self.alloc, self.file.as_slice(), number, octets, fate) else {
             self.fault = first_fault(self.fault, WriteFault::Memory);
             return;
         };
-        if let Err(fault) = self.to.put(line.as_slice()) {
-            self.fault = first_fault(self.fault, fault);
-        }
+        let Err(fault) = self.to.put(line.as_slice()) else {
+            return;
+        };
+        self.fault = first_fault(self.fault, fault);
     }
 }
 
 /// Of two faults the earlier one.
 fn first_fault(before: Option<WriteFault>, now: WriteFault) -> Option<WriteFault>
-    ensures { result ≡ None → ⊥ }
+    ensures { result ≡ first_fault before now }
 {
     match before {
         Some(fault) => Some(fault),
         None => Some(now),
     }
+}
+
+/// Whether something is to be said of an object.
+fn is_due(is_quiet: bool, fate: Fate) -> bool
+    ensures { result ≡ is_due is_quiet (fate_said fate) }
+{
+    !is_quiet && !is_taken(fate)
 }
 
 fn is_taken(fate: Fate) -> bool
@@ -95,7 +106,9 @@ fn is_taken(fate: Fate) -> bool
 }
 
 /// The name of a file and a blank.
-fn file_text(alloc: Global, name: &str) -> Result<Vec<u8>, AllocError> {
+fn file_text(alloc: Global, name: &str) -> Result<Vec<u8>, AllocError>
+    ensures { IfOk result (λ text. text.items ≡ shown name.now ++ codes " ") }
+{
     let mut text = Vec::new(alloc);
     append_shown(&mut text, name.as_bytes())?;
     text.extend_from_slice(b" ")?;
@@ -116,13 +129,13 @@ fn object_line(
     append_place(&mut line, file, number)?;
     append_fate(&mut line, fate)?;
     append_header(alloc, &mut line, octets)?;
-    line.push(b'\n')?;
+    line.extend_from_slice(b"\n")?;
     Ok(line)
 }
 
 /// `roombox: object 3: `
 fn append_place(line: &mut Vec<u8>, file: &[u8], number: u64) -> Result<(), AllocError>
-    ensures { OnOk result (line.new.items ≡ line.old.items ++ (codes "roombox: " ++ (file.now ++ (codes "object " ++ (decimal number ++ codes ": "))))) }
+    ensures { OnOk result (line.new.items ≡ line.old.items ++ place_words file.now number) }
 {
     let mut digits = Buffer::new();
     line.extend_from_slice(b"roombox: ")?;
@@ -157,7 +170,7 @@ fn append_refused(line: &mut Vec<u8>, number: u8) -> Result<(), AllocError>
 
 /// METHOD, UID and ORGANIZER of an object, where they can be read.
 fn append_header(alloc: Global, line: &mut Vec<u8>, octets: &[u8]) -> Result<(), AllocError>
-    ensures { OnOk result ((text : List ℕ) × (list_all is_shown text ≡ true) × (line.new.items ≡ line.old.items ++ text)) }
+    ensures { OnOk result ((method : List ℕ) × (uid : List ℕ) × (organizer : List ℕ) × (line.new.items ≡ line.old.items ++ header_text method uid organizer)) }
 {
     let header = Header::of(alloc, octets)?;
     append_value(line, b", ", header.method())?;
@@ -168,8 +181,7 @@ fn append_header(alloc: Global, line: &mut Vec<u8>, octets: &[u8]) -> Result<(),
 
 /// A value behind what names it, where there is one. At most 200 octets of it are shown, and `..` behind them.
 fn append_value(line: &mut Vec<u8>, before: &[u8], value: &[u8]) -> Result<(), AllocError>
-    requires { list_all is_shown before.now ≡ true }
-    ensures { OnOk result ((text : List ℕ) × (list_all is_shown text ≡ true) × (line.new.items ≡ line.old.items ++ text)) }
+    ensures { OnOk result (line.new.items ≡ line.old.items ++ value_text before.now value.now) }
 {
     if value.is_empty() {
         return Ok(());

@@ -1,4 +1,4 @@
-//! Which line of a preamble or a configuration can't be read, and why: said beside `refused 90`.
+//! Which line of a preamble or a configuration can't be read, and why: said behind `refused 90`.
 
 use crate::shown::append_cut;
 use cal_zones::RoomZone;
@@ -14,6 +14,15 @@ const MOST_ROOMS: usize = 64;
 
 /// The most organisers.
 const MOST_ORGANISERS: usize = 256;
+
+/// Which octets these are.
+#[derive(Clone, Copy, PartialEq, Eq)]
+pub enum Front {
+    /// The front of a stream, whose preamble has `now`.
+    Stream,
+    /// A configuration, which hasn't.
+    Configuration,
+}
 
 /// What is wrong.
 #[derive(Clone, Copy, PartialEq, Eq)]
@@ -41,100 +50,90 @@ enum Why {
 
 /// What is wrong, and on which line, counted from 1; 0 where it isn't one line.
 #[derive(Clone, Copy)]
-struct Found<'a> {
+struct Found {
     line: u64,
     why: Why,
-    text: &'a str,
-}
-
-/// The address of a `zone` line, and where that is.
-#[derive(Drop)]
-struct ZoneLine<'a> {
-    line: u64,
-    text: &'a str,
-    address: Address,
 }
 
 /// What the lines so far name.
 #[derive(Drop)]
-struct Named<'a> {
+struct Named {
     rooms: Vec<Address>,
-    zones: Vec<ZoneLine<'a>>,
+    zones: Vec<Address>,
+    /// The lines of these.
+    zone_lines: Vec<u64>,
     organisers: Vec<Address>,
     has_now: bool,
 }
 
-/// Which octets these are.
-#[derive(Clone, Copy, PartialEq, Eq)]
-pub enum Front {
-    /// The front of a stream, whose preamble has `now`.
-    Stream,
-    /// A configuration, which hasn't.
-    Configuration,
-}
-
-/// `roombox: line 3: the room is named twice: room mailto:r1@example.com`, as a line, of octets that are refused with 90: which line can't be read,
-/// and why. Nothing where nothing is wrong with them. Each line is looked at once, and its address beside those before it.
+/// `roombox: line 3: a line before it names this room: room mailto:r1@example.com`, as a line, of octets that are refused with 90: which line can't
+/// be read, and why. Nothing where nothing is wrong with them. Each line is looked at once, and its address beside those before it.
 pub fn append_preamble_fault(
     alloc: Global,
     out: &mut Vec<u8>,
     octets: &[u8],
     front: Front,
 ) -> Result<(), AllocError> {
+    let octets = preamble_in(octets);
     let Some(found) = found_in(alloc, octets, front)? else {
         return Ok(());
     };
     out.extend_from_slice(b"roombox: ")?;
-    if found.line > 0 {
-        let mut digits = Buffer::new();
-        out.extend_from_slice(b"line ")?;
-        out.extend_from_slice(digits.format(found.line).as_bytes())?;
-        out.extend_from_slice(b": ")?;
-    }
+    append_number(out, found.line)?;
     out.extend_from_slice(found.why.words().as_bytes())?;
-    if !found.text.is_empty() {
-        out.extend_from_slice(b": ")?;
-        append_cut(out, found.text.as_bytes())?;
+    append_text(out, octets, found.line)?;
+    out.extend_from_slice(b"\n")
+}
+
+/// `line 3: `; nothing of line 0.
+fn append_number(out: &mut Vec<u8>, line: u64) -> Result<(), AllocError> {
+    if line == 0 {
+        return Ok(());
     }
-    out.extend_from_slice(b"\n")?;
+    let mut digits = Buffer::new();
+    out.extend_from_slice(b"line ")?;
+    out.extend_from_slice(digits.format(line).as_bytes())?;
+    out.extend_from_slice(b": ")
+}
+
+/// A line of some octets, as it is shown; nothing of line 0.
+fn append_text(out: &mut Vec<u8>, octets: &[u8], number: u64) -> Result<(), AllocError> {
+    let mut left = number;
+    for line in octets.split(|octet| *octet == b'\n') {
+        if left == 1 {
+            out.extend_from_slice(b": ")?;
+            return append_cut(out, line.strip_suffix(b"\r").unwrap_or(line));
+        }
+        left = left.saturating_sub(1);
+    }
     Ok(())
 }
 
 /// What is wrong with some octets, if something is.
-fn found_in(alloc: Global, octets: &[u8], front: Front) -> Result<Option<Found<'_>>, AllocError> {
-    let octets = preamble_in(octets);
-    let Ok(text) = str::from_utf8(octets) else {
-        return Ok(Some(Found::whole(why_not_text(octets))));
-    };
-    if text.is_empty() {
+fn found_in(alloc: Global, octets: &[u8], front: Front) -> Result<Option<Found>, AllocError> {
+    if octets.is_empty() {
         return Ok(Some(Found::whole(Why::Empty)));
     }
-    let mut named = Named {
-        rooms: Vec::new(alloc),
-        zones: Vec::new(alloc),
-        organisers: Vec::new(alloc),
-        has_now: false,
+    let Ok(text) = str::from_utf8(octets) else {
+        return Ok(Some(Found::whole(why_no_text(octets))));
     };
+    let mut named = Named::new(alloc);
     let mut number: u64 = 0;
     for whole in text.split('\n') {
         let line = whole.strip_suffix('\r').unwrap_or(whole);
         if line.is_empty() {
-            break;
+            return Ok(named.lacks(octets, front));
         }
         number = number.saturating_add(1);
         if let Some(why) = named.take(alloc, number, line, front)? {
-            return Ok(Some(Found {
-                line: number,
-                why,
-                text: line,
-            }));
+            return Ok(Some(Found { line: number, why }));
         }
     }
-    Ok(named.lacks(octets.len(), front))
+    Ok(named.lacks(octets, front))
 }
 
 /// Of octets that aren't UTF-8: they are too long, where what was cut off is the reason.
-fn why_not_text(octets: &[u8]) -> Why {
+fn why_no_text(octets: &[u8]) -> Why {
     if octets.len() > LONGEST {
         Why::TooLong
     } else {
@@ -142,43 +141,43 @@ fn why_not_text(octets: &[u8]) -> Why {
     }
 }
 
-impl<'a> Found<'a> {
+impl Found {
     /// Of the whole.
-    fn whole(why: Why) -> Found<'a> {
-        Found {
-            line: 0,
-            why,
-            text: "",
-        }
+    fn whole(why: Why) -> Found {
+        Found { line: 0, why }
     }
 }
 
-impl<'a> Named<'a> {
+impl Named {
+    fn new(alloc: Global) -> Named {
+        Named {
+            rooms: Vec::new(alloc),
+            zones: Vec::new(alloc),
+            zone_lines: Vec::new(alloc),
+            organisers: Vec::new(alloc),
+            has_now: false,
+        }
+    }
+
     /// Takes one line more, or says what is wrong with it.
     fn take(
         &mut self,
         alloc: Global,
         number: u64,
-        line: &'a str,
+        line: &str,
         front: Front,
     ) -> Result<Option<Why>, AllocError> {
         if let Some(stamp) = line.strip_prefix("now ") {
             return Ok(self.take_now(stamp, front));
         }
         if let Some(address) = line.strip_prefix("room ") {
-            return take_host(alloc, &mut self.rooms, MOST_ROOMS, address, Kinds::ROOMS);
+            return take_room(alloc, &mut self.rooms, address);
         }
         if let Some(address) = line.strip_prefix("organiser ") {
-            return take_host(
-                alloc,
-                &mut self.organisers,
-                MOST_ORGANISERS,
-                address,
-                Kinds::ORGANISERS,
-            );
+            return take_organiser(alloc, &mut self.organisers, address);
         }
         if let Some(zone) = line.strip_prefix("zone ") {
-            return self.take_zone(alloc, number, line, zone);
+            return self.take_zone(alloc, number, zone);
         }
         if line.starts_with("BEGIN:") {
             return Ok(Some(Why::NoEmptyLine));
@@ -193,18 +192,17 @@ impl<'a> Named<'a> {
         if self.has_now {
             return Some(Why::SecondNow);
         }
-        if Stamp::read(stamp).is_err() {
-            return Some(Why::NoStamp);
-        }
         self.has_now = true;
-        None
+        match Stamp::read(stamp) {
+            Ok(_) => None,
+            Err(_) => Some(Why::NoStamp),
+        }
     }
 
     fn take_zone(
         &mut self,
         alloc: Global,
         number: u64,
-        line: &'a str,
         zone: &str,
     ) -> Result<Option<Why>, AllocError> {
         let Some((address, words)) = zone.split_once(' ') else {
@@ -213,38 +211,30 @@ impl<'a> Named<'a> {
         let Some(address) = address_of(alloc, address)? else {
             return Ok(Some(Why::NoAddress));
         };
-        match RoomZone::read(alloc, words) {
-            Ok(_) => {}
-            Err(Fault::Memory) => return Err(AllocError),
-            Err(Fault::Refused(_)) => return Ok(Some(Why::NoZone)),
+        if !is_zone(alloc, words)? {
+            return Ok(Some(Why::NoZone));
         }
         if self.zones.len() >= MOST_ROOMS {
             return Ok(Some(Why::ManyZones));
         }
-        if self.zones.iter().any(|other| other.address == address) {
+        if contains(self.zones.as_slice(), &address) {
             return Ok(Some(Why::SecondZone));
         }
-        self.zones.push(ZoneLine {
-            line: number,
-            text: line,
-            address,
-        })?;
+        self.zones.push(address)?;
+        self.zone_lines.push(number)?;
         Ok(None)
     }
 
     /// What is wrong once all lines are taken.
-    fn lacks(&self, length: usize, front: Front) -> Option<Found<'a>> {
-        if length > LONGEST {
+    fn lacks(&self, octets: &[u8], front: Front) -> Option<Found> {
+        if octets.len() > LONGEST {
             return Some(Found::whole(Why::TooLong));
         }
-        for zone in &self.zones {
-            if !contains(self.rooms.as_slice(), &zone.address) {
-                return Some(Found {
-                    line: zone.line,
-                    why: Why::ZoneOfNoRoom,
-                    text: zone.text,
-                });
-            }
+        if let Some(line) = self.zone_of_no_room() {
+            return Some(Found {
+                line,
+                why: Why::ZoneOfNoRoom,
+            });
         }
         if self.rooms.is_empty() && self.organisers.is_empty() {
             return Some(Found::whole(Why::NoHost));
@@ -254,45 +244,53 @@ impl<'a> Named<'a> {
         }
         None
     }
+
+    /// The line of the first zone whose room isn't named.
+    fn zone_of_no_room(&self) -> Option<u64> {
+        for (zone, line) in self.zones.iter().zip(self.zone_lines.iter()) {
+            if !contains(self.rooms.as_slice(), zone) {
+                return Some(*line);
+            }
+        }
+        None
+    }
 }
 
-/// What is said of one host too many, and of one that is there.
-#[derive(Clone, Copy)]
-struct Kinds {
-    many: Why,
-    second: Why,
-}
-
-impl Kinds {
-    const ROOMS: Kinds = Kinds {
-        many: Why::ManyRooms,
-        second: Why::SecondRoom,
-    };
-
-    const ORGANISERS: Kinds = Kinds {
-        many: Why::ManyOrganisers,
-        second: Why::SecondOrganiser,
-    };
-}
-
-/// Takes one host more, of which there may be this many.
-fn take_host(
+/// Takes one room more.
+fn take_room(
     alloc: Global,
-    hosts: &mut Vec<Address>,
-    most: usize,
+    rooms: &mut Vec<Address>,
     text: &str,
-    kinds: Kinds,
 ) -> Result<Option<Why>, AllocError> {
-    if hosts.len() >= most {
-        return Ok(Some(kinds.many));
+    if rooms.len() >= MOST_ROOMS {
+        return Ok(Some(Why::ManyRooms));
     }
     let Some(address) = address_of(alloc, text)? else {
         return Ok(Some(Why::NoAddress));
     };
-    if contains(hosts.as_slice(), &address) {
-        return Ok(Some(kinds.second));
+    if contains(rooms.as_slice(), &address) {
+        return Ok(Some(Why::SecondRoom));
     }
-    hosts.push(address)?;
+    rooms.push(address)?;
+    Ok(None)
+}
+
+/// Takes one organiser more.
+fn take_organiser(
+    alloc: Global,
+    organisers: &mut Vec<Address>,
+    text: &str,
+) -> Result<Option<Why>, AllocError> {
+    if organisers.len() >= MOST_ORGANISERS {
+        return Ok(Some(Why::ManyOrganisers));
+    }
+    let Some(address) = address_of(alloc, text)? else {
+        return Ok(Some(Why::NoAddress));
+    };
+    if contains(organisers.as_slice(), &address) {
+        return Ok(Some(Why::SecondOrganiser));
+    }
+    organisers.push(address)?;
     Ok(None)
 }
 
@@ -306,6 +304,15 @@ fn address_of(alloc: Global, text: &str) -> Result<Option<Address>, AllocError> 
         Ok(address) => Ok(Some(address)),
         Err(Fault::Memory) => Err(AllocError),
         Err(Fault::Refused(_)) => Ok(None),
+    }
+}
+
+/// Whether some words mean a zone.
+fn is_zone(alloc: Global, words: &str) -> Result<bool, AllocError> {
+    match RoomZone::read(alloc, words) {
+        Ok(_) => Ok(true),
+        Err(Fault::Memory) => Err(AllocError),
+        Err(Fault::Refused(_)) => Ok(false),
     }
 }
 
@@ -339,13 +346,13 @@ impl Why {
 /// The preamble at the front of a stream: up to its empty line, if there is one.
 pub fn preamble_in(octets: &[u8]) -> &[u8] {
     let mut length: usize = 0;
-    for whole in octets.split(|octet| *octet == b'\n') {
-        length = length.saturating_add(whole.len()).saturating_add(1);
-        if matches!(whole, [] | [b'\r']) {
-            break;
+    for line in octets.split(|octet| *octet == b'\n') {
+        length = length.saturating_add(line.len()).saturating_add(1);
+        if matches!(line, [] | [b'\r']) {
+            return &octets[..length.min(octets.len())];
         }
     }
-    &octets[..length.min(octets.len())]
+    octets
 }
 
 /// The name of a file or of another device, as it is shown.

@@ -1,8 +1,7 @@
 //! Octets of others as they are shown on standard error: in printable ASCII, on one line, and not too many.
 
-ghost use Rattle.std.specs.Prelude.{◌≡◌, ◌++◌, ◌<◌, ℕ, List, true, OnOk};
-ghost use Rattle.std.specs.List.{list_all};
-ghost use Rattle.sched_cli.specs.Logging.{is_shown};
+ghost use Rattle.std.specs.Prelude.{◌≡◌, ◌++◌, ◌<◌, OnOk};
+ghost use Rattle.sched_cli.specs.Logging.{cut_shown, hex_digit, is_plain, shown, shown_octet};
 
 use std::alloc::AllocError;
 
@@ -11,19 +10,19 @@ pub(crate) const MOST_SHOWN: usize = 200;
 
 /// At most 200 of some octets, and `..` where they are more.
 pub(crate) fn append_cut(line: &mut Vec<u8>, octets: &[u8]) -> Result<(), AllocError>
-    ensures { OnOk result ((text : List ℕ) × (list_all is_shown text ≡ true) × (line.new.items ≡ line.old.items ++ text)) }
+    ensures { OnOk result (line.new.items ≡ line.old.items ++ cut_shown octets.now) }
 {
-    let front = &octets[..octets.len().min(MOST_SHOWN)];
-    append_shown(line, front)?;
     if octets.len() > MOST_SHOWN {
-        line.extend_from_slice(b"..")?;
+        let front = &octets[..MOST_SHOWN];
+        append_shown(line, front)?;
+        return line.extend_from_slice(b"..");
     }
-    Ok(())
+    append_shown(line, octets)
 }
 
 /// Octets as printable ASCII: every other one, and `%`, as `%` and two hexadecimal digits.
 pub(crate) fn append_shown(line: &mut Vec<u8>, octets: &[u8]) -> Result<(), AllocError>
-    ensures { OnOk result ((text : List ℕ) × (list_all is_shown text ≡ true) × (line.new.items ≡ line.old.items ++ text)) }
+    ensures { OnOk result (line.new.items ≡ line.old.items ++ shown octets.now) }
 {
     for octet in octets {
         append_octet(line, *octet)?;
@@ -32,22 +31,26 @@ pub(crate) fn append_shown(line: &mut Vec<u8>, octets: &[u8]) -> Result<(), Allo
 }
 
 fn append_octet(line: &mut Vec<u8>, octet: u8) -> Result<(), AllocError>
-    ensures { OnOk result ((text : List ℕ) × (list_all is_shown text ≡ true) × (line.new.items ≡ line.old.items ++ text)) }
+    ensures { OnOk result (line.new.items ≡ line.old.items ++ shown_octet octet) }
 {
-    if (b' '..=b'~').contains(&octet) && octet != b'%' {
-        line.push(octet)?;
-        return Ok(());
+    if is_plain(octet) {
+        line.extend_from_slice(&[octet])
+    } else {
+        line.extend_from_slice(&[b'%', hex_digit(octet / 16), hex_digit(octet % 16)])
     }
-    line.push(b'%')?;
-    line.push(digit(octet / 16))?;
-    line.push(digit(octet % 16))?;
-    Ok(())
+}
+
+/// Whether an octet is shown as it is.
+fn is_plain(octet: u8) -> bool
+    ensures { result ≡ is_plain octet }
+{
+    octet >= b' ' && octet <= b'~' && octet != b'%'
 }
 
 /// The hexadecimal digit of a number below 16.
-fn digit(value: u8) -> u8
+fn hex_digit(value: u8) -> u8
     requires { value < 16 }
-    ensures { is_shown result ≡ true }
+    ensures { result ≡ hex_digit value }
 {
     if value < 10 {
         b'0' + value

@@ -1,6 +1,7 @@
-use Rattle.sched_cli.proofs.ShownLemmas.{AddsShown}
+use Rattle.std.proofs.Common.{◌≡◌, ◌++◌, take}
+use Rattle.std.specs.List.{flat_map}
+use Rattle.sched_cli.specs.Logging.{shown_octet}
 use Rattle.sched_cli.proofs.shown.append_shown.Given as goal
 
--- what may be shown was added so far
 abbrev pub invariant-loop-octet : goal.invariant-loop-octet
-invariant-loop-octet l = AddsShown l.fn.line.items l.line.items
+invariant-loop-octet l = l.line.items ≡ l.fn.line.items ++ flat_map shown_octet (take l.octet-index l.octets)
