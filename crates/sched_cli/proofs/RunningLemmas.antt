@@ -1,5 +1,5 @@
 -- Why no box was run.
-use Rattle.std.proofs.Common.{◌≡◌, ◌==◌, true, ℕ, Bool, List, Option, inl, inr, subst, arith}
+use Rattle.std.proofs.Common.{◌≡◌, ◌==◌, ◌⊎◌, ◌∙◌, true, ℕ, Bool, List, Option, Some, None, Result, Ok, Err, take, inl, inr, refl, sym, ap, subst, arith}
 use Rattle.std.proofs.lemmas.Bool.Decides.{nat_tests}
 use Rattle.ical_lines.specs.Fault.{RefusesOnly}
 use Rattle.ical_lines.specs.declared.fault.Fault.{Fault}
@@ -7,8 +7,14 @@ use Rattle.ical_lines.specs.declared.fault.Fault.TheVariants.{Refused, Memory}
 use Rattle.ical_values.specs.Refused.{IfRefused}
 use Rattle.profile.specs.faults.Faults.{is_preamble_fault}
 use Rattle.profile.specs.streams.Streams.{Config, IsConfiguration}
-use Rattle.sched_cli.specs.Commands.{SaysLine, read_status, read_text, refused_text}
-use Rattle.sched_cli.specs.Running.{RunsNone}
+use Rattle.sched_cli.specs.Commands.{SaysLine, read_status, read_text, refused_text, write_status, write_text}
+use Rattle.sched_box.specs.declared.folders.BoxFault.{BoxFault}
+use Rattle.sched_box.specs.declared.folders.BoxFault.TheVariants as box
+use Rattle.sched_box.specs.declared.folders.BoxReport.{BoxReport}
+use Rattle.sched_devices.specs.declared.output.WriteFault.{WriteFault}
+use Rattle.sched_devices.specs.declared.output.WriteFault.TheVariants as write
+use Rattle.std.specs.Io.KnownBytes.{Appends, Keeps}
+use Rattle.sched_cli.specs.Running.{EndsLogged, RunsLogged, RunsNone, RunsWith, SaysLogged, SaysRun, box_status, box_text, run_status}
 
 -- a fault of a preamble has this number alone
 preamble_number : (n : ℕ) → is_preamble_fault n ≡ true → n ≡ 90
@@ -21,3 +27,92 @@ runs_none status config (Refused r) a b lost is says number none =
     let P : ℕ → Type 0 = λ n. SaysLine (refused_text n) a b lost in
     inl (is, none, subst P (preamble_number r.number number) says)
 runs_none status config Memory a b lost is says number none = inr (is, says)
+
+-- ---- with a report
+
+pub read_fails : (fault : Fault) → read_status fault ≡ 0 → ⊥
+read_fails (Refused r) e = absurd (omega arith)
+read_fails Memory e = absurd (omega arith)
+
+pub box_fails : (fault : BoxFault) → box_status fault ≡ 0 → ⊥
+box_fails box.Device e = absurd (omega arith)
+box_fails (box.Differs name) e = absurd (omega arith)
+box_fails box.Memory e = absurd (omega arith)
+
+write_fails : (fault : WriteFault) → write_status fault ≡ 0 → ⊥
+write_fails write.Failed e = absurd (omega arith)
+write_fails write.Memory e = absurd (omega arith)
+
+says_behind : (a b c : Option (List ℕ)) (line : List ℕ) (lost : Bool) → Keeps a b → SaysLine line b c lost → SaysLine line a c lost
+says_behind a b c line lost kept (inl said) = inl (Appends-behind a b c line kept said)
+says_behind a b c line lost kept (inr (l, n, begun)) = inr (l, n, Appends-behind a b c (take n line) kept begun)
+
+-- what was said at the end of a run, and then of its report
+said_logged : (fault : Option WriteFault) (ended : Result BoxReport BoxFault) (before status : ℕ) (a b c : Option (List ℕ)) (lost_before lost : Bool) → before ≡ run_status ended → SaysRun ended a b lost_before
+    → EndsLogged fault before status b c lost_before lost → SaysLogged fault ended status a c lost
+said_logged None ended before status a b c lost_before lost is says (same, kept, marked) =
+    let P : Bool → Type 0 = λ l. SaysRun ended a b l in
+    let Q : Option (List ℕ) → Type 0 = λ o. SaysRun ended a o lost in
+    (same ∙ is, subst Q (sym kept) (subst P (sym marked) says))
+said_logged (Some fault) (Ok report) before status a b c lost_before lost is says (inl (not_done, rest)) = absurd (not_done is)
+said_logged (Some fault) (Ok report) before status a b c lost_before lost is says (inr (done, status_is, said)) = (status_is, says_behind a b c (write_text fault) lost says said)
+said_logged (Some fault) (Err ending) before status a b c lost_before lost is says (inl (not_done, same, kept, marked)) =
+    let P : Bool → Type 0 = λ l. SaysLine (box_text ending) a b l in
+    let Q : Option (List ℕ) → Type 0 = λ o. SaysLine (box_text ending) a o lost in
+    (same ∙ is, subst Q (sym kept) (subst P (sym marked) says))
+said_logged (Some fault) (Err ending) before status a b c lost_before lost is says (inr (done, rest)) = absurd (box_fails ending (sym is ∙ done))
+
+pub runs_logged : (fault : Option WriteFault) (before status : ℕ) (config : List ℕ) (MayEnd : Config → Result BoxReport BoxFault → Type 0) (a b c : Option (List ℕ)) (lost_before lost : Bool) (Same : Type 0)
+    → (RunsNone before config a b lost_before × Same) ⊎ RunsWith before config MayEnd a b lost_before → EndsLogged fault before status b c lost_before lost
+    → (RunsNone status config a c lost × Same) ⊎ RunsLogged fault status config MayEnd a c lost
+runs_logged fault before status config MayEnd a b c lost_before lost Same (inl (none, same)) ends = inl (none_logged fault none ends, same)
+  where
+    some : RunsNone before config a b lost_before → before ≡ 0 → ⊥
+    some (inl (is, rest)) e = absurd (omega arith)
+    some (inr (is, rest)) e = absurd (omega arith)
+
+    as_it_was : status ≡ before → c ≡ b → lost ≡ lost_before → RunsNone before config a b lost_before → RunsNone status config a c lost
+    as_it_was is kept marked none =
+        let P : ℕ → Type 0 = λ s. RunsNone s config a c lost in
+        let Q : Option (List ℕ) → Type 0 = λ o. RunsNone before config a o lost in
+        let R : Bool → Type 0 = λ l. RunsNone before config a b l in
+        subst P (sym is) (subst Q (sym kept) (subst R (sym marked) none))
+
+    none_logged : (f : Option WriteFault) → RunsNone before config a b lost_before → EndsLogged f before status b c lost_before lost → RunsNone status config a c lost
+    none_logged None none (is, kept, marked) = as_it_was is kept marked none
+    none_logged (Some f) none (inl (not_done, is, kept, marked)) = as_it_was is kept marked none
+    none_logged (Some f) none (inr (done, rest)) = absurd (some none done)
+runs_logged fault before status config MayEnd a b c lost_before lost Same (inr with') ends = inr (record {
+  closed = with'.closed;
+  hosts = with'.hosts;
+  spells = with'.spells;
+  ended = with'.ended;
+  runs = with'.runs;
+  said = said_logged fault with'.ended before status a b c lost_before lost with'.status_is with'.said ends;
+})
+
+-- where the status is 0 the run's was, and no line is missing
+pub done_logged : (fault : Option WriteFault) (before status : ℕ) (a b : Option (List ℕ)) (lost_before lost : Bool) → EndsLogged fault before status a b lost_before lost → status ≡ 0 → (fault ≡ None) × (before ≡ 0)
+done_logged None before status a b lost_before lost (is, rest) done = (refl, sym is ∙ done)
+done_logged (Some fault) before status a b lost_before lost (inl (not_done, is, rest)) done = absurd (not_done (sym is ∙ done))
+done_logged (Some fault) before status a b lost_before lost (inr (was, is, said)) done = absurd (write_fails fault (sym is ∙ done))
+
+-- where it is 4 the run's was, or a writer of lines has failed
+pub device_logged : (fault : Option WriteFault) (before status : ℕ) (a b : Option (List ℕ)) (lost_before lost : Bool) → EndsLogged fault before status a b lost_before lost → status ≡ 4 → (before ≡ 4) ⊎ (fault ≡ Some write.Failed)
+device_logged None before status a b lost_before lost (is, rest) four = inl (sym is ∙ four)
+device_logged (Some fault) before status a b lost_before lost (inl (not_done, is, rest)) four = inl (sym is ∙ four)
+device_logged (Some write.Failed) before status a b lost_before lost (inr (was, is, said)) four = inr refl
+device_logged (Some write.Memory) before status a b lost_before lost (inr (was, is, said)) four = absurd (omega arith)
+
+-- where it isn't, the run's wasn't
+pub no_device_logged : (fault : Option WriteFault) (before status : ℕ) (a b : Option (List ℕ)) (lost_before lost : Bool) → EndsLogged fault before status a b lost_before lost → (status ≡ 4 → ⊥) → before ≡ 4 → ⊥
+no_device_logged None before status a b lost_before lost (is, rest) no four = no (is ∙ four)
+no_device_logged (Some fault) before status a b lost_before lost (inl (not_done, is, rest)) no four = no (is ∙ four)
+no_device_logged (Some fault) before status a b lost_before lost (inr (was, is, said)) no four = absurd (omega arith)
+
+pub status_logged : (fault : Option WriteFault) (before status : ℕ) (a b : Option (List ℕ)) (lost_before lost : Bool) → EndsLogged fault before status a b lost_before lost
+    → (before ≡ 0) ⊎ (before ≡ 3) ⊎ (before ≡ 4) ⊎ (before ≡ 5) → (status ≡ 0) ⊎ (status ≡ 3) ⊎ (status ≡ 4) ⊎ (status ≡ 5)
+status_logged None before status a b lost_before lost (is, rest) one = let P : ℕ → Type 0 = λ s. (s ≡ 0) ⊎ (s ≡ 3) ⊎ (s ≡ 4) ⊎ (s ≡ 5) in subst P (sym is) one
+status_logged (Some fault) before status a b lost_before lost (inl (not_done, is, rest)) one = let P : ℕ → Type 0 = λ s. (s ≡ 0) ⊎ (s ≡ 3) ⊎ (s ≡ 4) ⊎ (s ≡ 5) in subst P (sym is) one
+status_logged (Some write.Failed) before status a b lost_before lost (inr (was, is, said)) one = inl (inr is)
+status_logged (Some write.Memory) before status a b lost_before lost (inr (was, is, said)) one = inr is

@@ -1,11 +1,15 @@
 -- What a run over folders says, and what it leaves.
-use Rattle.std.specs.Prelude.{◌≡◌, ◌⊎◌, ℕ, Bool, List, ◌++◌, codes, string_bytes, Option, Result, Ok, Err}
+use Rattle.std.specs.Prelude.{◌≡◌, ◌⊎◌, ℕ, Bool, List, ◌++◌, codes, string_bytes, Option, Some, None, Result, Ok, Err}
 use Rattle.std.specs.Io.KnownBytes.{Keeps}
+use Rattle.profile.specs.streams.Folders.{Image}
+use Rattle.profile.specs.streams.Reports.{Fate}
 use Rattle.profile.specs.streams.Streams.{Config, IsConfiguration}
 use Rattle.sched_box.specs.declared.folders.BoxFault.{BoxFault}
 use Rattle.sched_box.specs.declared.folders.BoxFault.TheVariants.{Device, Differs, Memory}
+use Rattle.sched_box.specs.Telling.{TellsInbox}
 use Rattle.sched_box.specs.declared.folders.BoxReport.{BoxReport}
-use Rattle.sched_cli.specs.Commands.{SaysLine, device_text, memory_text, refused_text}
+use Rattle.sched_devices.specs.declared.output.WriteFault.{WriteFault}
+use Rattle.sched_cli.specs.Commands.{SaysLine, device_text, memory_text, refused_text, write_status, write_text}
 
 abbrev pub differs_text : List ℕ → List ℕ
 differs_text name = codes "roombox: differs " ++ (name ++ codes "\n")
@@ -47,3 +51,32 @@ pub record RunsWith (status : ℕ) (config : List ℕ) (MayEnd : Config → Resu
   pub runs : MayEnd hosts ended
   pub status_is : status ≡ run_status ended
   pub said : SaysRun ended old new lost
+
+-- ---- with a report
+
+-- what is said at its end, and the status: where all files are answered and a line of the report wasn't written whole, that
+abbrev pub SaysLogged : Option WriteFault → Result BoxReport BoxFault → ℕ → Option (List ℕ) → Option (List ℕ) → Bool → Type 0
+SaysLogged None ended status old new lost = (status ≡ run_status ended) × SaysRun ended old new lost
+SaysLogged (Some fault) (Ok report) status old new lost = (status ≡ write_status fault) × SaysLine (write_text fault) old new lost
+SaysLogged (Some fault) (Err ending) status old new lost = (status ≡ box_status ending) × SaysLine (box_text ending) old new lost
+
+-- the octets are the configuration of these hosts, a run of their box ended so, and that was said of it and of the report
+pub record RunsLogged (fault : Option WriteFault) (status : ℕ) (config : List ℕ) (MayEnd : Config → Result BoxReport BoxFault → Type 0) (old new : Option (List ℕ)) (lost : Bool) : Type 0 where
+  pub closed : Bool
+  pub hosts : Config
+  pub spells : IsConfiguration closed config hosts
+  pub ended : Result BoxReport BoxFault
+  pub runs : MayEnd hosts ended
+  pub said : SaysLogged fault ended status old new lost
+
+-- a status 0 gives way to that of a line which wasn't written whole, and that is said; another one stays
+abbrev pub EndsLogged : Option WriteFault → ℕ → ℕ → Option (List ℕ) → Option (List ℕ) → Bool → Bool → Type 0
+EndsLogged None before status old new lost_before lost = (status ≡ before) × (new ≡ old) × (lost ≡ lost_before)
+EndsLogged (Some fault) before status old new lost_before lost =
+    ((before ≡ 0 → ⊥) × (status ≡ before) × (new ≡ old) × (lost ≡ lost_before))
+    ⊎ ((before ≡ 0) × (status ≡ write_status fault) × SaysLine (write_text fault) old new lost)
+
+-- of all files of the inbox, and of the objects in each, it was told what became of them by the box of the configuration
+abbrev pub TellsBox : {Told : Type 0} → (Told → List ℕ → Bool → Told → Type 0) → (Told → ℕ → List ℕ → Fate → Told → Type 0) → Told → Told → List ℕ → Image → Image → Type 0
+TellsBox Begins Tells old new config inbox outbox =
+    (closed : Bool) × (hosts : Config) × IsConfiguration closed config hosts × TellsInbox Begins Tells old new inbox outbox hosts

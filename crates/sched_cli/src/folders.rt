@@ -1,14 +1,16 @@
 //! `box`: answers the files of one folder by files of another.
 
-ghost use Rattle.std.specs.Prelude.{◌≡◌, ◌⊎◌, None, true};
+ghost use Rattle.std.specs.Prelude.{◌≡◌, ◌⊎◌, Some, None, true};
 ghost use Rattle.profile.specs.streams.Folders.{LosesNamesAlone};
 ghost use Rattle.sched_devices.specs.Folder.{IsKept};
 ghost use Rattle.sched_box.specs.Boxes.{HasRisen, Runs};
-ghost use Rattle.sched_cli.specs.Running.{RunsNone, RunsWith};
+ghost use Rattle.sched_devices.specs.declared.output.WriteFault.TheVariants as write;
+ghost use Rattle.sched_cli.specs.Logging.{LogBegins, LogTells};
+ghost use Rattle.sched_cli.specs.Running.{EndsLogged, RunsLogged, RunsNone, RunsWith, TellsBox};
 
 use crate::log::Log;
 use crate::status::{DONE, report_box, report_read, report_write};
-use sched_box::{Config, Folder, Journal, Nobody, Output, run_box_telling};
+use sched_box::{Config, Folder, Journal, Nobody, Output, WriteFault, run_box_telling};
 use std::alloc::Global;
 
 /// `box`: reads a configuration, and answers each file of the inbox by one of the outbox. Gives 0 where all are answered, 3 where the
@@ -53,6 +55,7 @@ fn run_folders_telling<I: Folder, O: Folder, J: Journal, E: Output>(
         → Runs (I.image inbox.old) hosts (record { start = O.image outbox.old; now = O.image outbox.new; first = O.moment outbox.old; last = O.moment outbox.new })
         (O.may_leave outbox.old) (O.may_leave outbox.new) (O.left_since outbox.new) ended)
         (E.contents errors.old) (E.contents errors.new) (E.may_lose errors.new) }
+    ensures tells { result ≡ 0 → I.is_known inbox.old ≡ true → O.is_known outbox.old ≡ true → TellsBox J.begins J.tells journal.old journal.new config.now (I.image inbox.old) (O.image outbox.old) }
 {
     let config = match Config::read(alloc, config) {
         Ok(config) => config,
@@ -75,18 +78,36 @@ pub fn run_folders_report<I: Folder, O: Folder, L: Output, E: Output>(
     errors: &mut E,
 ) -> u8
     ensures status { (result ≡ 0) ⊎ (result ≡ 3) ⊎ (result ≡ 4) ⊎ (result ≡ 5) }
+    ensures device { result ≡ 4 → HasRisen (I.failed inbox.old) (I.failed inbox.new) ⊎ HasRisen (O.failed outbox.old) (O.failed outbox.new) ⊎ (log.new.fault ≡ Some write.Failed) }
+    ensures told { (result ≡ 4 → ⊥) → (I.failed inbox.new ≡ I.failed inbox.old) × (O.failed outbox.new ≡ O.failed outbox.old) }
     ensures whole { result ≡ 0 → log.new.fault ≡ None }
     ensures kept { IsKept I.is_known I.image I.temporary I.may_leave inbox.old inbox.new }
-    ensures runs { log.new.fault ≡ None → (RunsNone result config.now (E.contents errors.old) (E.contents errors.new) (E.may_lose errors.new) × (inbox.new ≡ inbox.old) × (outbox.new ≡ outbox.old))
-        ⊎ RunsWith result config.now
+    ensures runs { (RunsNone result config.now (E.contents errors.old) (E.contents errors.new) (E.may_lose errors.new) × (inbox.new ≡ inbox.old) × (outbox.new ≡ outbox.old))
+        ⊎ RunsLogged log.new.fault result config.now
         (λ hosts ended. I.is_known inbox.old ≡ true → O.is_known outbox.old ≡ true → LosesNamesAlone (O.image outbox.old) (O.may_leave outbox.old)
         → Runs (I.image inbox.old) hosts (record { start = O.image outbox.old; now = O.image outbox.new; first = O.moment outbox.old; last = O.moment outbox.new })
         (O.may_leave outbox.old) (O.may_leave outbox.new) (O.left_since outbox.new) ended)
         (E.contents errors.old) (E.contents errors.new) (E.may_lose errors.new) }
+    ensures tells { result ≡ 0 → I.is_known inbox.old ≡ true → O.is_known outbox.old ≡ true → TellsBox
+        (λ old name is_new new. LogBegins (record { file = old.file.items; is_quiet = old.is_quiet; fault = old.fault; written = L.contents old.to; has_failed = L.has_failed old.to }) name is_new
+        (record { file = new.file.items; is_quiet = new.is_quiet; fault = new.fault; written = L.contents new.to; has_failed = L.has_failed new.to }))
+        (λ old k _ fate new. LogTells (record { file = old.file.items; is_quiet = old.is_quiet; fault = old.fault; written = L.contents old.to; has_failed = L.has_failed old.to }) k fate
+        (record { file = new.file.items; is_quiet = new.is_quiet; fault = new.fault; written = L.contents new.to; has_failed = L.has_failed new.to }))
+        log.old log.new config.now (I.image inbox.old) (O.image outbox.old) }
 {
     let status = run_folders_telling(alloc, config, inbox, outbox, log, errors);
-    match log.fault() {
-        Some(fault) if status == DONE => report_write(errors, fault),
-        _ => status,
+    end_folders(errors, status, log.fault())
+}
+
+/// The status at the end of a run that was reported: where all is answered and a line of the report wasn't written whole, that is said.
+fn end_folders<E: Output>(errors: &mut E, status: u8, fault: Option<WriteFault>) -> u8
+    ensures { EndsLogged fault status result (E.contents errors.old) (E.contents errors.new) (E.may_lose errors.old) (E.may_lose errors.new) }
+{
+    let Some(fault) = fault else {
+        return status;
+    };
+    if status != DONE {
+        return status;
     }
+    report_write(errors, fault)
 }

@@ -80,9 +80,9 @@ pub fn run_serve_report<R: Input, W: Output, L: Output, E: Output>(
         (E.contents errors.old) (E.contents errors.new) (E.may_lose errors.new) }
     ensures device { result ≡ 4 → (((R.has_failed reader.new ≡ true) ⊎ (W.has_failed writer.new.to ≡ true)) ⊎ ((log.new.fault ≡ Some write.Failed) ⊎ (E.has_failed errors.new ≡ true))) }
     ensures whole { result ≡ 0 → log.new.fault ≡ None }
-    ensures tells { result ≡ 0 → (report : SaidReport) × TellsStream (λ old k fate new. (new.file.items ≡ old.file.items) × (new.is_quiet ≡ old.is_quiet)
-        × LogTells old.file.items old.is_quiet old.fault (L.contents old.to) k fate new.fault (L.contents new.to)) log.old log.new
-        (record { input = R.remaining reader.old; left = R.remaining reader.new; output = W.contents writer.old.to; written = W.contents writer.new.to }) report }
+    ensures tells { result ≡ 0 → (report : SaidReport) × TellsStream (λ old k _ fate new. LogTells (record { file = old.file.items; is_quiet = old.is_quiet; fault = old.fault; written = L.contents old.to; has_failed = L.has_failed old.to }) k fate
+        (record { file = new.file.items; is_quiet = new.is_quiet; fault = new.fault; written = L.contents new.to; has_failed = L.has_failed new.to }))
+        log.old log.new (record { input = R.remaining reader.old; left = R.remaining reader.new; output = W.contents writer.old.to; written = W.contents writer.new.to }) report }
 {
     match serve_stream_telling(alloc, reader, writer, log) {
         Ok(report) => end_report(alloc, log.fault(), errors, report, &writer.counts),
