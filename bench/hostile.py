@@ -252,7 +252,7 @@ def most_groups(count):
 def objects(count):
     """A stream of the smallest objects, each refused. Their answers aren't kept."""
     piece = SMALLEST * 10_000
-    return Run(["serve", "--report"], [preamble(1), *([piece] * (count // 10_000))], said=rb"^roombox: %d objects, %d refused \(20: %d\)\n$" % (count, count, count))
+    return Run(["serve", "--report"], [preamble(1), *([piece] * (count // 10_000))], said=rb"(?m)^roombox: %d objects, %d refused \(20: %d\)\n\Z" % (count, count, count))
 
 
 def empty_lines(count):

@@ -22,7 +22,7 @@ import tempfile
 import time
 from pathlib import Path
 
-from guide import Cases
+from guide import Cases, without_reason
 
 ROOT = Path(__file__).resolve().parent.parent
 PROGRAM = str(Path(sys.argv[1] if len(sys.argv) > 1 else ROOT / "bin" / "roombox").resolve())
@@ -95,7 +95,7 @@ class Boxes:
     def run(self, **how):
         """The status, the standard output and the standard error of a run."""
         ended = subprocess.run(self.words(), stdin=subprocess.DEVNULL, capture_output=True, timeout=300, **how)
-        return ended.returncode, ended.stdout.decode(), ended.stderr.decode()
+        return ended.returncode, ended.stdout.decode(), without_reason(ended.stderr.decode())
 
     def begun(self):
         return subprocess.Popen(self.words(), stdin=subprocess.DEVNULL, stdout=subprocess.DEVNULL, stderr=subprocess.PIPE)
@@ -416,7 +416,7 @@ def failing_calls(cases, parent):
         words = ["strace", "-qq", "-o", "/dev/null", *filters, "-e", f"trace={call}", "-e", f"inject={call}:error={error}:when={number}", *boxes.words()]
         ended = subprocess.run(words, stdin=subprocess.DEVNULL, capture_output=True, text=True)
         said = [line for line in ended.stderr.splitlines(True) if not line.startswith("strace: Requested path ")]
-        return ended.returncode, ended.stdout, "".join(said)
+        return ended.returncode, ended.stdout, without_reason("".join(said))
 
     # how often each is called for two files: both folders are listed in two calls each, and opened for it; the outbox is opened once more, to be synced.
     # Before that a temporary is unlinked that isn't there: whether that fails doesn't matter
@@ -500,7 +500,7 @@ def vanished(cases, parent):
     while not (boxes.outbox / named(1, end="out")).exists() and run.poll() is None:
         time.sleep(0.0005)
     (boxes.inbox / named(MANY)).unlink()
-    said = run.stderr.read().decode()
+    said = without_reason(run.stderr.read().decode())
     cases.holds("a file that vanishes", (run.wait(), said), (4, "roombox: device\n"))
     cases.holds("the answers to the others are there", boxes.names(), [named(number, end="out") for number in range(1, MANY)])
     run.stderr.close()

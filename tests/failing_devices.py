@@ -14,7 +14,7 @@ import sys
 import tempfile
 from pathlib import Path
 
-from guide import R1, Cases
+from guide import R1, Cases, without_reason
 
 DATA = Path(__file__).resolve().parent.parent / "crates" / "worked_examples" / "data"
 # Each object with the file of its answer, None where there is none.
@@ -77,7 +77,7 @@ class Devices:
         """The status, standard output and standard error of a run whose call of this number fails."""
         environment = dict(os.environ, LD_PRELOAD=self.shim, **{name: str(number) for name, number in failing.items()})
         ended = subprocess.run([self.program, *words], input=given, capture_output=True, env=environment, timeout=60, check=False)
-        return ended.returncode, ended.stdout, ended.stderr
+        return ended.returncode, ended.stdout, without_reason(ended.stderr.decode()).encode()
 
 
 def served(cases, devices):

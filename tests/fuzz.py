@@ -530,10 +530,11 @@ def listed_statuses():
 
 def said_as_listed(ended, case):
     """Whether standard error has what the guide says of the status."""
-    forms = {2: rb"error: .*", 3: rb"roombox: (refused \d+|too long|differs [\x21-\x7e]+)\n", 4: rb"roombox: device\n", 5: rb"roombox: memory\n"}
-    report = rb"(roombox: object \d+: [^\n]*\n)*" if case.words[:1] == ["adapt"] else rb"roombox: \d+ objects?, .*\n"
-    form = report if ended.status == 0 and "--report" in case.words else rb""
-    return re.fullmatch(forms.get(ended.status, form), ended.said, re.DOTALL)
+    reason = rb"(roombox: [\x20-\x7e]+\n)?"
+    forms = {2: rb"error: .*", 3: rb"roombox: (refused \d+\n" + reason + rb"|too long\n|differs [\x21-\x7e]+\n)", 4: rb"roombox: device\n" + reason, 5: rb"roombox: memory\n"}
+    lines = rb"(roombox: object \d+: [\x20-\x7e]*\n)*" if "--report" in case.words else rb""
+    counts = rb"roombox: \d+ objects?, [^\n]*\n" if "--report" in case.words and case.words[:1] != ["adapt"] else rb""
+    return re.fullmatch(lines + forms.get(ended.status, counts), ended.said, re.DOTALL)
 
 
 def fault_of(command, case, ended, statuses):

@@ -49,6 +49,13 @@ def unfolded(text):
     return text.replace("\r\n ", "")
 
 
+def without_reason(said):
+    """Standard error without the line of reason behind `roombox: refused 90` or `roombox: device`. Each reason has a row of its own here or in reports.py."""
+    first, _, rest = said.partition("\n")
+    has_reason = first in ("roombox: refused 90", "roombox: device") and rest.startswith("roombox: ") and rest.count("\n") == 1
+    return first + "\n" if has_reason else said
+
+
 def answers(program, *objects, preamble=PREAMBLE):
     """The words of what is answered: ACCEPTED, DECLINED, REFRESH, or a REFUSED line."""
     status, out, said = run(program, given=preamble + "".join(objects))
@@ -75,23 +82,50 @@ class Cases:
 
 
 def preambles(cases, program):
-    for what, text in [
-        ("no now", ROOM + "\n"), ("two of now", NOW + NOW + ROOM + "\n"), ("no room", NOW + "\n"), ("one room twice", NOW + ROOM + ROOM + "\n"),
-        ("the room twice in another case", NOW + ROOM + "room MAILTO:R1@EXAMPLE.COM\n\n"), ("two spaces", NOW + "room  mailto:r1@example.com\n\n"),
-        ("a space behind", NOW + "room mailto:r1@example.com \n\n"), ("upper case", "NOW 20250102T000000Z\n" + ROOM + "\n"),
-        ("a comment", "# rooms\n" + NOW + ROOM + "\n"), ("a byte order mark", "\ufeff" + NOW + ROOM + "\n"), ("an empty line first", "\n" + NOW + ROOM + "\n"),
-        ("no empty line", NOW + ROOM), ("one organiser twice", NOW + ROOM + ANN + ANN + "\n"), ("257 organisers", NOW + ROOM + "".join(f"organiser mailto:o{n}@example.com\n" for n in range(257)) + "\n"), ("nothing", ""),
-        ("65 rooms", NOW + "".join(f"room mailto:r{n}@example.com\n" for n in range(65)) + "\n"),
+    """What is no preamble: the number of the line, why it is none, and the line."""
+    word = "it doesn't begin with `now `, `room `, `zone ` or `organiser `"
+    for what, text, reason in [
+        ("no line", "", "line 1: no empty line stands before the first object: BEGIN:VCALENDAR"),
+        ("no now", ROOM + "\n", "no line is `now` and a time"),
+        ("two of now", NOW + NOW + ROOM + "\n", "line 2: it is a second `now`: now 20250102T000000Z"),
+        ("a now that is no time", "now 2025-01-02\n" + ROOM + "\n", "line 1: behind `now ` is no time such as 20250102T000000Z: now 2025-01-02"),
+        ("no room", NOW + "\n", "no line names a room or an organiser"),
+        ("one room twice", NOW + ROOM + ROOM + "\n", f"line 3: a line before it names this room: room {R1}"),
+        ("the room twice in another case", NOW + ROOM + "room MAILTO:R1@EXAMPLE.COM\n\n", "line 3: a line before it names this room: room MAILTO:R1@EXAMPLE.COM"),
+        ("two spaces", NOW + "room  mailto:r1@example.com\n\n", "line 2: it has no address such as mailto:r1@example.com: room  mailto:r1@example.com"),
+        ("a space behind", NOW + "room mailto:r1@example.com \n\n", "line 2: it has no address such as mailto:r1@example.com: room mailto:r1@example.com "),
+        ("no address of an organiser", NOW + ROOM + "organiser ann\n\n", "line 3: it has no address such as mailto:r1@example.com: organiser ann"),
+        ("upper case", "NOW 20250102T000000Z\n" + ROOM + "\n", f"line 1: {word}: NOW 20250102T000000Z"),
+        ("a comment", "# rooms\n" + NOW + ROOM + "\n", f"line 1: {word}: # rooms"),
+        ("a byte order mark", "\ufeff" + NOW + ROOM + "\n", f"line 1: {word}: %EF%BB%BFnow 20250102T000000Z"),
+        ("a line of 201 octets", NOW + "x" * 201 + "\n\n", f"line 2: {word}: " + "x" * 200 + ".."),
+        ("a line of 200 octets", NOW + "x" * 200 + "\n\n", f"line 2: {word}: " + "x" * 200),
+        ("lines that end with CRLF", NOW.replace("\n", "\r\n") + "rom r1\r\n\r\n", f"line 2: {word}: rom r1"),
+        ("an empty line first", "\n" + NOW + ROOM + "\n", "no line names a room or an organiser"),
+        ("no empty line", NOW + ROOM, "line 3: no empty line stands before the first object: BEGIN:VCALENDAR"),
+        ("one organiser twice", NOW + ROOM + ANN + ANN + "\n", "line 4: a line before it names this organiser: organiser mailto:ann@example.com"),
+        ("257 organisers", NOW + ROOM + "".join(f"organiser mailto:o{n}@example.com\n" for n in range(257)) + "\n", "line 259: it is one organiser more than 256: organiser mailto:o256@example.com"),
+        ("65 rooms", NOW + "".join(f"room mailto:r{n}@example.com\n" for n in range(65)) + "\n", "line 66: it is one room more than 64: room mailto:r64@example.com"),
+        ("two zones of one room", NOW + ROOM + f"zone {R1} -0500\nzone {R1} +0100\n\n", f"line 4: a line before it gives this room a zone: zone {R1} +0100"),
+        ("the same zone twice", NOW + ROOM + f"zone {R1} {YORK}\nzone {R1} {YORK}\n\n", f"line 4: a line before it gives this room a zone: zone {R1} {YORK}"),
+        ("a zone of no room", NOW + ROOM + "zone mailto:r2@example.com -0500\n\n", "line 3: no line names this room: zone mailto:r2@example.com -0500"),
+        ("a zone of an organiser", NOW + ROOM + ANN + "zone mailto:ann@example.com -0500\n\n", "line 4: no line names this room: zone mailto:ann@example.com -0500"),
+        ("words of no zone", NOW + ROOM + f"zone {R1} America/New_York\n\n", f"line 3: behind the address are no words that mean a zone: zone {R1} America/New_York"),
+        ("a zone without words", NOW + ROOM + f"zone {R1}\n\n", f"line 3: behind the address are no words that mean a zone: zone {R1}"),
+        ("two spaces before words", NOW + ROOM + f"zone {R1}  -0500\n\n", f"line 3: behind the address are no words that mean a zone: zone {R1}  -0500"),
+        ("a zone without an address", NOW + ROOM + "zone r1 -0500\n\n", "line 3: it has no address such as mailto:r1@example.com: zone r1 -0500"),
+        ("65 zones", NOW + ROOM + "".join(f"zone mailto:r{n}@example.com +0100\n" for n in range(65)) + "\n", "line 67: it is one zone more than 64: zone mailto:r64@example.com +0100"),
     ]:
         # where the preamble has no end, the object is taken as part of it
         found = run(program, given=text + request())
-        cases.holds(f"preamble with {what}", (found[0], found[1], found[2]), (3, "", "roombox: refused 90\n"))
-    for what, lines in [
-        ("two zones of one room", f"zone {R1} -0500\nzone {R1} +0100\n"), ("the same zone twice", f"zone {R1} {YORK}\nzone {R1} {YORK}\n"), ("a zone of no room", "zone mailto:r2@example.com -0500\n"),
-        ("a zone of an organiser", ANN + "zone mailto:ann@example.com -0500\n"), ("words of no zone", f"zone {R1} America/New_York\n"), ("a zone without words", f"zone {R1}\n"), ("two spaces before words", f"zone {R1}  -0500\n"),
+        cases.holds(f"preamble with {what}", found, (3, "", f"roombox: refused 90\nroombox: {reason}\n"))
+    for what, octets, reason in [
+        ("nothing", b"", "there is no preamble"),
+        ("no UTF-8", NOW.encode() + b"room mailto:r\xff@example.com\n\n", "the preamble isn't UTF-8"),
+        ("65,537 octets", (NOW + ROOM + "x" * 65_600).encode(), f"line 3: {word}: " + "x" * 200 + ".."),
+        ("rooms without an end", (NOW + "room mailto:r@example.com\n").encode() + b"\xff" * 65_600, "no empty line is among the first 65536 octets"),
     ]:
-        found = run(program, given=NOW + ROOM + lines + "\n" + request())
-        cases.holds(f"preamble with {what}", (found[0], found[1], found[2]), (3, "", "roombox: refused 90\n"))
+        cases.holds(f"preamble with {what}", run(program, given=octets), (3, "", f"roombox: refused 90\nroombox: {reason}\n"))
     cases.holds("64 rooms", answers(program, request(room="mailto:r63@example.com"), preamble=NOW + "".join(f"room mailto:r{n}@example.com\n" for n in range(64)) + "\n"), ["ACCEPTED"])
     cases.holds("CRLF in the preamble", answers(program, request(), preamble=PREAMBLE.replace("\n", "\r\n")), ["ACCEPTED"])
     cases.holds("empty lines between objects", answers(program, request(), "\r\n\r\n", request("b", start="20250310T100000Z", lines=("DURATION:PT1H",))), ["ACCEPTED", "ACCEPTED"])
@@ -274,7 +308,7 @@ def kept(cases, program):
         cases.holds("CRLF in a certificate", run(program, "check", calendar, certificate, R1)[:2], (1, "no 81 1\n"))
         calendar.write_text("no calendar", newline="")
         cases.holds("no calendar", run(program, "check", calendar, certificate, R1)[:2], (1, "no 80\n"))
-        cases.holds("keep of a room that isn't hosted", run(program, "keep", "mailto:r2@example.com", given=stream), (3, "", "roombox: refused 90\n"))
+        cases.holds("keep of a room that isn't hosted", run(program, "keep", "mailto:r2@example.com", given=stream), (3, "", "roombox: refused 90\nroombox: the preamble doesn't name the room mailto:r2@example.com\n"))
 
 
 def zones(cases, program):
@@ -711,24 +745,47 @@ def explained_objects(cases, program):
 
 
 def reported(cases, program):
-    """`serve --report`: a line on standard error at the end, and standard output as without it."""
+    """`serve --report`: on standard error a line for each object that came to nothing, and the counts at the end; standard output as without it."""
     good, zone, twice = changed({}), changed({9: "DTSTART;TZID=Z:20250310T090000"}), changed({5: "UID:a|UID:a"})
-    for what, objects, wanted in [
-        ("no object", [], "0 objects, 0 refused"),
-        ("none refused", [good, good], "2 objects, 0 refused"),
-        ("three refused", [zone, good, twice, zone, good], "5 objects, 3 refused (43: 2, 61: 1)"),
-        ("one object", [zone], "1 object, 1 refused (43: 1)"),
-        ("all refused", [twice, twice], "2 objects, 2 refused (61: 2)"),
-        ("the numbers in their order", [changed({7: ""}), twice, zone, changed({10: "DURATION:1H"})], "4 objects, 4 refused (12: 1, 43: 1, 61: 1, 63: 1)"),
-        ("a refusal by an organiser's state", [changed({3: "METHOD:REPLY"}), good], "2 objects, 1 refused (70: 1)"),
-        ("a decline isn't a refusal", [good, changed({5: "UID:b"})], "2 objects, 0 refused"),
+    known = ", UID a, ORGANIZER mailto:ann@example.com"
+    asked = ", REQUEST" + known
+    long, longer = "u" * 200, "u" * 201
+    for what, objects, lines, wanted in [
+        ("no object", [], [], "0 objects, 0 refused"),
+        ("none refused", [good, good], [f"object 2: changed nothing{asked}"], "2 objects, 0 refused"),
+        ("three refused", [zone, good, twice, zone, good], [f"object 1: refused 43{asked}", f"object 3: refused 61{asked}", f"object 4: refused 43{asked}", f"object 5: changed nothing{asked}"], "5 objects, 3 refused (43: 2, 61: 1)"),
+        ("one object", [zone], [f"object 1: refused 43{asked}"], "1 object, 1 refused (43: 1)"),
+        ("all refused", [twice, twice], [f"object 1: refused 61{asked}", f"object 2: refused 61{asked}"], "2 objects, 2 refused (61: 2)"),
+        ("the numbers in their order", [changed({7: ""}), twice, zone, changed({10: "DURATION:1H"})],
+         ["object 1: refused 63, REQUEST, UID a", f"object 2: refused 61{asked}", f"object 3: refused 43{asked}", f"object 4: refused 12{asked}"], "4 objects, 4 refused (12: 1, 43: 1, 61: 1, 63: 1)"),
+        ("a refusal by an organiser's state", [changed({3: "METHOD:REPLY"}), good], [f"object 1: refused 70, REPLY{known}"], "2 objects, 1 refused (70: 1)"),
+        ("a decline isn't a refusal", [good, changed({5: "UID:b"})], [], "2 objects, 0 refused"),
+        ("a room that isn't hosted", [changed({8: "ATTENDEE:mailto:r9@example.com"})], [f"object 1: reached no room{asked}"], "1 object, 0 refused"),
+        ("what is older", [changed({10: "DURATION:PT1H|SEQUENCE:2"}), changed({10: "DURATION:PT1H|SEQUENCE:1"})], [f"object 2: stale{asked}"], "2 objects, 0 refused"),
+        ("a second cancel", [good, changed({3: "METHOD:CANCEL", 10: "SEQUENCE:1"}), changed({3: "METHOD:CANCEL", 10: "SEQUENCE:1"})], [f"object 3: changed nothing, CANCEL{known}"], "3 objects, 0 refused"),
+        ("a store without METHOD", [changed({3: ""})], ["object 1: refused 70" + known], "1 object, 1 refused (70: 1)"),
+        ("no METHOD, UID or ORGANIZER", ["BEGIN:VCALENDAR\r\nEND:VCALENDAR\r\n"], ["object 1: refused 24"], "1 object, 1 refused (24: 1)"),
+        ("no object at all", ["what\r\n"], ["object 1: refused 1"], "1 object, 1 refused (1: 1)"),
+        ("names in lower case, parameters and a fold", [changed({3: "method:REQUEST", 5: "uid;x=1:a", 7: 'organizer;CN="Ann: A":mailto:ann@| example.com', 10: "DURATION:1H"})], [f"object 1: refused 12{asked}"], "1 object, 1 refused (12: 1)"),
+        ("the first line of each name", [changed({5: "UID:a|UID:b", 7: "ORGANIZER:mailto:ann@example.com|ORGANIZER:mailto:bob@example.com"})], [f"object 1: refused 61{asked}"], "1 object, 1 refused (61: 1)"),
+        ("octets that aren't printable ASCII", [changed({5: "UID:%\u00e9|DURATION:x"})], ["object 1: refused 61, REQUEST, UID %25%C3%A9, ORGANIZER mailto:ann@example.com"], "1 object, 1 refused (61: 1)"),
+        ("a UID of 200 octets", [changed({5: f"UID:{long}", 10: "DURATION:x"})], [f"object 1: refused 12, REQUEST, UID {long}, ORGANIZER mailto:ann@example.com"], "1 object, 1 refused (12: 1)"),
+        ("a UID of 201 octets", [changed({5: f"UID:{longer}", 10: "DURATION:x"})], [f"object 1: refused 12, REQUEST, UID {long}.., ORGANIZER mailto:ann@example.com"], "1 object, 1 refused (12: 1)"),
     ]:
         stream = PREAMBLE + "".join(objects)
         without = run(program, "serve", given=stream)
         cases.holds(f"without a report, {what}", (without[0], without[2]), (0, ""))
-        cases.holds(f"a report of {what}", run(program, "serve", "--report", given=stream), (0, without[1], f"roombox: {wanted}\n"))
-    cases.holds("no report of a stream that ends early", run(program, "serve", "--report", given="now\n\n" + good), (3, "", "roombox: refused 90\n"))
-    cases.holds("no report of nothing", run(program, "serve", "--report"), (3, "", "roombox: refused 90\n"))
+        said = "".join(f"roombox: {line}\n" for line in [*lines, wanted])
+        cases.holds(f"a report of {what}", run(program, "serve", "--report", given=stream), (0, without[1], said))
+    two = NOW + ROOM + "room mailto:r2@example.com\n\n"
+    both = changed({8: "ATTENDEE:mailto:r1@example.com|ATTENDEE:mailto:r2@example.com"})
+    cases.holds("one of two rooms knows it already, the other one doesn't", run(program, "serve", "--report", given=two + good + both)[2], "roombox: 2 objects, 0 refused\n")
+    cases.holds("both know it", run(program, "serve", "--report", given=two + both + good)[2], f"roombox: object 2: changed nothing{asked}\nroombox: 2 objects, 0 refused\n")
+    store = NOW + ROOM + ANN + "\n" + changed({3: ""}) * 2
+    cases.holds("of what an organiser takes nothing is said", run(program, "serve", "--report", given=store)[2], "roombox: 2 objects, 0 refused\n")
+    early = "roombox: refused 90\nroombox: line 1: it doesn't begin with `now `, `room `, `zone ` or `organiser `: now\n"
+    cases.holds("no report of a stream that ends early", run(program, "serve", "--report", given="now\n\n" + good), (3, "", early))
+    cases.holds("no report of nothing", run(program, "serve", "--report"), (3, "", "roombox: refused 90\nroombox: there is no preamble\n"))
 
 
 def command_line(cases, program):

@@ -12,6 +12,8 @@ import tempfile
 import time
 from pathlib import Path
 
+from guide import without_reason
+
 ROOM = "mailto:r1@example.com"
 PREAMBLE = "now 20250102T000000Z\nroom mailto:r1@example.com\n\n"
 REQUEST = "\r\n".join([
@@ -34,7 +36,7 @@ def expect(name, found, wanted):
 def ended(program, words, stdin, stdout=subprocess.PIPE):
     """The status and the standard error of a run."""
     run = subprocess.run([program, *words], input=stdin.encode(), stdout=stdout, stderr=subprocess.PIPE, check=False)
-    return run.returncode, run.stderr.decode()
+    return run.returncode, without_reason(run.stderr.decode())
 
 
 def full_disk(program, calendar, certificate):

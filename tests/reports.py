@@ -86,7 +86,7 @@ def boxes(cases, program, parent):
     for folder in (inbox, outbox):
         folder.mkdir()
     config.write_text(f"room {R1}\n")
-    first, second = "20250102T000000Z-1.ics", "20250102T000000Z-2.ics"
+    first, second = "00000001-20250102T000000Z.ics", "00000002-20250102T000000Z.ics"
     (inbox / first).write_bytes((changed({}) + changed({7: ""}) + changed({})).encode())
 
     def reported(*words):
@@ -97,6 +97,8 @@ def boxes(cases, program, parent):
     cases.holds("it isn't said again", reported("--report"), (0, "", ""))
     (inbox / second).write_bytes(changed({8: "ATTENDEE:mailto:r9@example.com"}).encode())
     cases.holds("a report of a new file", reported("--report"), (0, "", f"roombox: {second} object 1: reached no room, REQUEST{KNOWN}\n"))
+    (outbox / first.replace(".ics", ".out")).unlink()
+    cases.holds("a report of a file whose answers are gone", reported("--report"), (0, "", lines))
     for name in (first, second):
         (outbox / name.replace(".ics", ".out")).unlink()
     cases.holds("without --report nothing is said", reported(), (0, "", ""))

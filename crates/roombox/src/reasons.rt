@@ -42,7 +42,6 @@ impl<R: Read + Drop> Read for WatchedReader<R> {
     fn read(&mut self, buffer: &mut [u8]) -> io::Result<usize> {
         match self.device.read(buffer) {
             Ok(count) => {
-                // an interrupted call that was tried again is no failure
                 self.kind = None;
                 let room = (LONGEST + 1).saturating_sub(self.front.len());
                 // there is room for it
@@ -50,7 +49,7 @@ impl<R: Read + Drop> Read for WatchedReader<R> {
                 Ok(count)
             }
             Err(error) => {
-                self.kind = Some(error.kind());
+                self.kind = kept_kind(error.kind());
                 Err(error)
             }
         }
@@ -82,7 +81,7 @@ impl<W: Write + Drop> Write for WatchedWriter<W> {
                 Ok(count)
             }
             Err(error) => {
-                self.kind = Some(error.kind());
+                self.kind = kept_kind(error.kind());
                 Err(error)
             }
         }
@@ -90,12 +89,24 @@ impl<W: Write + Drop> Write for WatchedWriter<W> {
 
     fn flush(&mut self) -> io::Result<()> {
         match self.device.flush() {
-            Ok(()) => Ok(()),
+            Ok(()) => {
+                self.kind = None;
+                Ok(())
+            }
             Err(error) => {
-                self.kind = Some(error.kind());
+                self.kind = kept_kind(error.kind());
                 Err(error)
             }
         }
+    }
+}
+
+/// What is remembered of a call that failed: one that was interrupted is tried again, and is no failure.
+fn kept_kind(kind: ErrorKind) -> Option<ErrorKind> {
+    if kind == ErrorKind::Interrupted {
+        None
+    } else {
+        Some(kind)
     }
 }
 

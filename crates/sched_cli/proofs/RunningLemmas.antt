@@ -1,5 +1,5 @@
 -- Why no box was run.
-use Rattle.std.proofs.Common.{◌≡◌, ◌==◌, ◌⊎◌, ◌∙◌, true, ℕ, Bool, List, Option, Some, None, Result, Ok, Err, take, inl, inr, refl, sym, ap, subst, arith}
+use Rattle.std.proofs.Common.{◌≡◌, ◌==◌, ◌⊎◌, ◌∙◌, true, ℕ, Bool, List, ◌++◌, Option, Some, None, Result, Ok, Err, take, inl, inr, refl, sym, ap, subst, arith}
 use Rattle.std.proofs.lemmas.Bool.Decides.{nat_tests}
 use Rattle.ical_lines.specs.Fault.{RefusesOnly}
 use Rattle.ical_lines.specs.declared.fault.Fault.{Fault}
@@ -43,9 +43,15 @@ write_fails : (fault : WriteFault) → write_status fault ≡ 0 → ⊥
 write_fails write.Failed e = absurd (omega arith)
 write_fails write.Memory e = absurd (omega arith)
 
+appends_behind : (a b c : Option (List ℕ)) (line : List ℕ) → Keeps a b → Appends b c line → Appends a c line
+appends_behind None b c line kept added = tt
+appends_behind (Some xs) None c line kept added = absurd kept
+appends_behind (Some xs) (Some ys) None line kept added = added
+appends_behind (Some xs) (Some ys) (Some zs) line kept added = added ∙ ap (λ l. l ++ line) kept
+
 says_behind : (a b c : Option (List ℕ)) (line : List ℕ) (lost : Bool) → Keeps a b → SaysLine line b c lost → SaysLine line a c lost
-says_behind a b c line lost kept (inl said) = inl (Appends-behind a b c line kept said)
-says_behind a b c line lost kept (inr (l, n, begun)) = inr (l, n, Appends-behind a b c (take n line) kept begun)
+says_behind a b c line lost kept (inl said) = inl (appends_behind a b c line kept said)
+says_behind a b c line lost kept (inr (l, n, begun)) = inr (l, n, appends_behind a b c (take n line) kept begun)
 
 -- what was said at the end of a run, and then of its report
 said_logged : (fault : Option WriteFault) (ended : Result BoxReport BoxFault) (before status : ℕ) (a b c : Option (List ℕ)) (lost_before lost : Bool) → before ≡ run_status ended → SaysRun ended a b lost_before
@@ -98,11 +104,23 @@ done_logged (Some fault) before status a b lost_before lost (inl (not_done, is, 
 done_logged (Some fault) before status a b lost_before lost (inr (was, is, said)) done = absurd (write_fails fault (sym is ∙ done))
 
 -- where it is 4 the run's was, or a writer of lines has failed
-pub device_logged : (fault : Option WriteFault) (before status : ℕ) (a b : Option (List ℕ)) (lost_before lost : Bool) → EndsLogged fault before status a b lost_before lost → status ≡ 4 → (before ≡ 4) ⊎ (fault ≡ Some write.Failed)
+device_logged : (fault : Option WriteFault) (before status : ℕ) (a b : Option (List ℕ)) (lost_before lost : Bool) → EndsLogged fault before status a b lost_before lost → status ≡ 4 → (before ≡ 4) ⊎ (fault ≡ Some write.Failed)
 device_logged None before status a b lost_before lost (is, rest) four = inl (sym is ∙ four)
 device_logged (Some fault) before status a b lost_before lost (inl (not_done, is, rest)) four = inl (sym is ∙ four)
 device_logged (Some write.Failed) before status a b lost_before lost (inr (was, is, said)) four = inr refl
 device_logged (Some write.Memory) before status a b lost_before lost (inr (was, is, said)) four = absurd (omega arith)
+
+pub device_of : (A B : Type 0) (fault : Option WriteFault) (before status : ℕ) (a b : Option (List ℕ)) (lost_before lost : Bool) → EndsLogged fault before status a b lost_before lost → (before ≡ 4 → A ⊎ B)
+    → status ≡ 4 → A ⊎ (B ⊎ (fault ≡ Some write.Failed))
+device_of A B fault before status a b lost_before lost ends cause four = at (device_logged fault before status a b lost_before lost ends four)
+  where
+    of_run : A ⊎ B → A ⊎ (B ⊎ (fault ≡ Some write.Failed))
+    of_run (inl x) = inl x
+    of_run (inr y) = inr (inl y)
+
+    at : (before ≡ 4) ⊎ (fault ≡ Some write.Failed) → A ⊎ (B ⊎ (fault ≡ Some write.Failed))
+    at (inl was) = of_run (cause was)
+    at (inr failed) = inr (inr failed)
 
 -- where it isn't, the run's wasn't
 pub no_device_logged : (fault : Option WriteFault) (before status : ℕ) (a b : Option (List ℕ)) (lost_before lost : Bool) → EndsLogged fault before status a b lost_before lost → (status ≡ 4 → ⊥) → before ≡ 4 → ⊥
@@ -114,5 +132,5 @@ pub status_logged : (fault : Option WriteFault) (before status : ℕ) (a b : Opt
     → (before ≡ 0) ⊎ (before ≡ 3) ⊎ (before ≡ 4) ⊎ (before ≡ 5) → (status ≡ 0) ⊎ (status ≡ 3) ⊎ (status ≡ 4) ⊎ (status ≡ 5)
 status_logged None before status a b lost_before lost (is, rest) one = let P : ℕ → Type 0 = λ s. (s ≡ 0) ⊎ (s ≡ 3) ⊎ (s ≡ 4) ⊎ (s ≡ 5) in subst P (sym is) one
 status_logged (Some fault) before status a b lost_before lost (inl (not_done, is, rest)) one = let P : ℕ → Type 0 = λ s. (s ≡ 0) ⊎ (s ≡ 3) ⊎ (s ≡ 4) ⊎ (s ≡ 5) in subst P (sym is) one
-status_logged (Some write.Failed) before status a b lost_before lost (inr (was, is, said)) one = inl (inr is)
-status_logged (Some write.Memory) before status a b lost_before lost (inr (was, is, said)) one = inr is
+status_logged (Some write.Failed) before status a b lost_before lost (inr (was, is, said)) one = inr (inr (inl is))
+status_logged (Some write.Memory) before status a b lost_before lost (inr (was, is, said)) one = inr (inr (inr is))
