@@ -634,6 +634,10 @@ def explained(cases, program):
     cases.holds("another number is a usage fault", found[45][:2], (2, ""))
     cases.holds("so is one that is gone", found[55][:2], (2, ""))
     cases.holds("so is a word", run(program, "explain", "no")[:2], (2, ""))
+    for line, number in [("REFUSED;OBJECT=3:43", 43), ("REFUSED;OBJECT=3:43\r", 43), ("roombox: refused 90", 90), ("no 82", 82), ("no 81 5", 81), ("no 83 1 2", 83), (" 61 ", 61)]:
+        cases.holds(f"explain of the line {line!r}", run(program, "explain", line), (0, numbers_of_reference()[number], ""))
+    for line in ("REFUSED;OBJECT=3:45", "REFUSED;OBJECT=3", "roombox: refused", "no  82", "yes", "roombox: device"):
+        cases.holds(f"no number is in the line {line!r}", run(program, "explain", line)[:2], (2, ""))
 
 
 # An object that isn't refused, a content line each; the line of number n is OBJECT[n - 1].
@@ -702,9 +706,28 @@ def explained_objects(cases, program):
         ("a store of an instance by its date", "57 at line 9: RECURRENCE-ID", {3: "", 10: "RECURRENCE-ID;VALUE=DATE:20250310"}),
         ("a period", "56 at line 11: RDATE", {10: "DURATION:PT1H|RDATE;VALUE=PERIOD:20250311T090000Z/PT1H"}),
         ("PUBLISH", "60 at line 3: METHOD", {3: "METHOD:PUBLISH"}),
-        ("no UID", "61", {5: ""}),
-        ("UID twice", "61", {5: "UID:a|UID:a"}),
-        ("no ORGANIZER", "63", {7: ""}),
+        ("no UID", "61 at line 4: BEGIN\nVEVENT at line 4: it has no UID.", {5: ""}),
+        ("UID twice", "61 at line 6: UID\nVEVENT at line 4: UID occurs twice in it.", {5: "UID:a|UID:a"}),
+        ("no DTSTAMP", "61 at line 4: BEGIN\nVEVENT at line 4: it has no DTSTAMP.", {6: ""}),
+        ("no DTSTART", "61 at line 4: BEGIN\nVEVENT at line 4: it has no DTSTART.", {9: ""}),
+        ("no DTSTART in an ADD", "61 at line 4: BEGIN\nVEVENT at line 4: it has no DTSTART.", {3: "METHOD:ADD", 9: ""}),
+        ("no DTSTART in a store, which needs no DTSTAMP", "61 at line 3: BEGIN\nVEVENT at line 3: it has no DTSTART.", {3: "", 6: "", 9: ""}),
+        ("SEQUENCE twice", "61 at line 12: SEQUENCE\nVEVENT at line 4: SEQUENCE occurs twice in it.", {10: "DURATION:PT1H|SEQUENCE:1|SEQUENCE:1"}),
+        ("a VEVENT of its own name in lower case", "61 at line 4: begin\nvevent at line 4: it has no UID.", {4: "begin:vevent", 5: "", 11: "end:vevent"}),
+        ("DTEND beside DURATION", "61 at line 10: DURATION\nVEVENT at line 4: DURATION stands beside DTEND in it.", {10: "DURATION:PT1H|DTEND:20250310T100000Z"}),
+        ("the second of two VEVENTs without a UID", "61 at line 12: BEGIN\nVEVENT at line 12: it has no UID.", {11: "|".join(["END:VEVENT", OBJECT[3], *OBJECT[5:11]])}),
+        ("a VEVENT behind a VTODO without a UID", "61 at line 6: BEGIN\nVEVENT at line 6: it has no UID.", {4: "BEGIN:VTODO|END:VTODO|BEGIN:VEVENT", 5: ""}),
+        ("an alarm with the UID", "61 at line 4: BEGIN\nVEVENT at line 4: it has no UID.", {5: "BEGIN:VALARM|UID:a|END:VALARM"}),
+        ("no ORGANIZER", "63 at line 4: BEGIN\nVEVENT at line 4: it has no ORGANIZER.", {7: ""}),
+        ("an END of another component", "20 at line 11: END", {11: "END:VTODO"}),
+        ("an END of another component, behind a right one", "20 at line 13: END", {4: "BEGIN:VTODO|END:VTODO|BEGIN:VEVENT", 11: "END:VTODO"}),
+        ("an END too early, before a right one", "20 at line 6: END", {5: "UID:a|END:VCALENDAR"}),
+        ("an END in lower case of another component", "20 at line 11: end", {11: "end:vtodo"}),
+        ("components nine deep", "22 at line 17: BEGIN", {10: "DURATION:PT1H|" + "|".join(["BEGIN:X"] * 7 + ["END:X"] * 7)}),
+        ("components nine deep, behind an alarm", "22 at line 19: BEGIN", {5: "UID:a|BEGIN:VALARM|END:VALARM", 10: "DURATION:PT1H|" + "|".join(["BEGIN:X"] * 7 + ["END:X"] * 7)}),
+        ("a line before its VCALENDAR", "23 at line 1: X-A", {1: "X-A:1|BEGIN:VCALENDAR"}),
+        ("a component before its VCALENDAR", "23 at line 1: BEGIN", {1: "BEGIN:VTODO|END:VTODO|BEGIN:VCALENDAR"}),
+        ("a VCALENDAR inside it", "23 at line 11: BEGIN", {10: "DURATION:PT1H|BEGIN:VCALENDAR|END:VCALENDAR"}),
         ("RANGE", "65 at line 11: RECURRENCE-ID", {10: "DURATION:PT1H|RECURRENCE-ID;RANGE=THISANDFUTURE:20250310T090000Z"}),
         ("no VEVENT", "66", dict.fromkeys(range(4, 12), "")),
         ("RRULE beside RECURRENCE-ID", "67 at line 12: RRULE", {10: slot + "|RRULE:FREQ=DAILY"}),
@@ -739,6 +762,10 @@ def explained_objects(cases, program):
         stream = (PREAMBLE + changed({}) + "\r\n" + changed({5: "UID:b"}) + changed({9: "DTSTART;TZID=Z:20250310T090000"}) + changed({5: ""})).encode()
         cut = subprocess.run(["sh", "-c", recipe.partition(" stream |")[0]], input=stream, capture_output=True).stdout
         cases.holds("the recipe that cuts out the third object", cut.decode(), changed({9: "DTSTART;TZID=Z:20250310T090000"}))
+    for method in ("CANCEL", "REPLY", "REFRESH"):
+        lacking = changed({3: f"METHOD:{method}", 9: "", 10: "STATUS:CONFIRMED|STATUS:CONFIRMED"})
+        said = "refused 61 at line 10: STATUS\nVEVENT at line 4: STATUS occurs twice in it.\n"
+        cases.holds(f"explain of a {method} with STATUS twice, which needs no DTSTART", run(program, "explain", given=lacking)[1].partition("61: ")[0], said)
     for method, wanted in [("REQUEST", "a REQUEST"), ("ADD", "an ADD"), ("CANCEL", "a CANCEL"), ("REPLY", "a REPLY"), ("REFRESH", "a REFRESH"), (None, "a store")]:
         taken = changed({3: f"METHOD:{method}" if method else ""})
         cases.holds(f"explain of {wanted}", run(program, "explain", given=taken), (0, f"not refused: {wanted}\n", ""))

@@ -448,7 +448,7 @@ fn number_of(word: &str) -> &str {
     if let Some(rest) = word.strip_prefix("REFUSED;OBJECT=") {
         return match rest.split_once(':') {
             Some((_, number)) => number,
-            None => rest,
+            None => "",
         };
     }
     if let Some(number) = word.strip_prefix("roombox: refused ") {
