@@ -8,10 +8,29 @@ use Rattle.sched_box.specs.Running.{AnswersMessage, HasAnswered, LeavesHeld, ans
 use Rattle.sched_box.specs.declared.file_names.MessageName.{MessageName}
 use Rattle.sched_box.specs.declared.folders.BoxFault.TheVariants.{Memory}
 use Rattle.sched_box.specs.Telling.{FilesTold, TellsOctets}
-use Rattle.sched_box.proofs.TellingLemmas.{file_told}
+use Rattle.sched_box.proofs.TellingLemmas.{file_told, no_file_told}
 use Rattle.cal_events.proofs.shared_lemmas.InOneOrder.{in_mapped}
-use Rattle.sched_box.proofs.FolderLemmas.{ended_between, free_where_not, held_where_listed, kept_on, never_failed, none_is, not_named, run_ended, settled_last, settled_more}
+use Rattle.sched_box.proofs.FolderLemmas.{ended_between, free_where_not, held_where_listed, kept_on, never_failed, none_answered, none_is, not_named, run_ended, settled_last, settled_more}
 use Rattle.sched_box.proofs.folders.answer_all.Goals as goal
+
+pub loop-file-init : goal.loop-file-init
+loop-file-init g c = record {
+  inbox_kept = record { known = refl; same = refl; temporary_is = refl; stop = λ left may. may };
+  inbox_told = refl;
+  outbox_known = refl;
+  outbox_told = refl;
+  outbox_goes_on = λ known loses. loses;
+  counted = refl;
+  fewer = omega arith;
+  so = λ known. none_answered (record { known = g.I.Folder.is_known c.args.inbox.now; inbox = g.I.Folder.image c.args.inbox.now; books = c.args.books.now; start = g.O.Folder.image c.args.outbox.now; first = g.O.Folder.moment c.args.outbox.now })
+      c.args.books.now _ _ _ (record { files = 0; written = 0 }) refl (λ exact. exact) refl refl;
+  files_told = λ known. no_file_told g.J.Journal.begins g.J.Journal.tells (g.I.Folder.image c.args.inbox.now) (map string_bytes c.args.theirs.now) c.args.journal.now c.args.books.now;
+}
+
+pub returns-in_err-is_new-clause-goes_on : goal.returns-in_err-is_new-clause-goes_on
+returns-in_err-is_new-clause-goes_on g c = λ known loses.
+    let inv = c.loop-file.invariant in
+    c.in_err-is_new.ensures.goes_on (inv.outbox_known ∙ known) (inv.outbox_goes_on known loses)
 
 pub answers_of-requires : goal.answers_of-requires
 answers_of-requires g c = λ known.

@@ -73,7 +73,7 @@ loop-answers-preserved g c =
       between_more c.args.most _ b d _ number _ _ _ _ _ before.left _ _ c.loop-answers.invariant.3 c.loop-answers.invariant.0.read reads.1 (c.in_ok-next_object.ensures.after c.if-branch.true) c.next_object.ensures.fills,
       reads.3,
       told_next g.J.Journal.tells c.args.journal.now c.loop-answers.journal c.tell.new.self c.args.now olds news newer (g.R.Input.remaining c.args.reader.now) b d (g.W.Output.contents c.args.writer.now) (g.W.Output.contents c.loop-answers.writer) (g.W.Output.contents c.send.new.writer) before after c.loop-answers.report _ number fate sent
-          c.loop-answers.invariant.5 reads refl became (subst (λ kept. g.J.Journal.tells c.loop-answers.journal number kept fate c.tell.new.self) c.octets-2.ensures c.tell.ensures) c.in_ok-send.ensures.written refl,
+          c.loop-answers.invariant.5 reads refl became (subst (λ kept. g.J.Journal.tells c.loop-answers.journal number kept fate c.tell.new.self) c.octets-in-loop-answers.ensures c.tell.ensures) c.in_ok-send.ensures.written refl,
     )
 
 pub returns-clause-serves : goal.returns-clause-serves
