@@ -1,11 +1,11 @@
 -- Who is told of one file after another.
-use Rattle.std.proofs.Common.{◌≡◌, ◌↔◌, ◌∙◌, ◌∷◌, ◌++◌, ℕ, ℤ, Bool, true, false, not, List, [], map, Option, Some, Contains, IfOk, IsTrue, OnOk, Result, Ok, Err, Vec, Global, string_bytes, refl, sym, ap, subst, true≢false}
+use Rattle.std.proofs.Common.{◌≡◌, ◌↔◌, ◌∙◌, ◌∷◌, ◌++◌, ℕ, ℤ, Bool, true, false, not, List, [], map, Option, Some, IfOk, IsTrue, OnOk, Result, Ok, Err, Vec, Global, string_bytes, refl, sym, ap, subst, true≢false}
 use Rattle.std.specs.Option.{unwrap_or}
 use Rattle.profile.specs.streams.Folders.{AreMessageFiles, AreNames, Image}
-use Rattle.profile.specs.streams.Reports.{AllAnswersAs, AllTold, Fate}
-use Rattle.profile.specs.streams.Streams.{AreObjects, Box, Config, new_box}
+use Rattle.profile.specs.streams.Reports.{AllAnswersAs, Fate}
+use Rattle.profile.specs.streams.Streams.{Box, Config, new_box}
 use Rattle.sched_box.specs.Books.{AreBooksOf}
-use Rattle.sched_box.specs.Running.{answers_name, file_of}
+use Rattle.sched_box.specs.Running.{file_of}
 use Rattle.sched_box.specs.Serving.{TellsAll}
 use Rattle.sched_box.specs.Telling.{AllFilesTold, FilesTold, IsNew, TellsInbox, TellsObjects, TellsOctets}
 use Rattle.sched_box.specs.declared.books.Books.{Books}

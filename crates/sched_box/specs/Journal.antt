@@ -1,5 +1,5 @@
 -- What the code says of what became of an object.
-use Rattle.std.specs.Prelude.{◌≡◌, ◌++◌, ◌∷◌, [], ℕ, List}
+use Rattle.std.specs.Prelude.{◌≡◌, ◌++◌, ◌∷◌, [], List}
 use Rattle.std.specs.List.{list_any}
 use Rattle.profile.specs.rooms.Rooms.{Kind}
 use Rattle.profile.specs.streams.Reports as reports

@@ -330,11 +330,7 @@ fn answer_all<I: Folder, O: Folder, J: Journal>(
 }
 
 /// Whether the outbox hasn't the answers to a message yet.
-fn is_unanswered(
-    alloc: Global,
-    theirs: &[String],
-    file: &MessageName,
-) -> Result<bool, AllocError>
+fn is_unanswered(alloc: Global, theirs: &[String], file: &MessageName) -> Result<bool, AllocError>
     requires { AreRising (map string_bytes theirs.now) }
     ensures { IfOk result (IsNew (map string_bytes theirs.now) file.now) }
 {

@@ -1,4 +1,4 @@
-use Rattle.std.proofs.Common.{◌≡◌, ◌↔◌, ◌∙◌, List, ℕ, Contains, IsTrue, map, string_bytes, subst}
+use Rattle.std.proofs.Common.{◌↔◌, ◌∙◌, List, ℕ, Contains, IsTrue, map, string_bytes, subst}
 use Rattle.sched_box.specs.Running.{answers_name}
 use Rattle.sched_box.proofs.TellingLemmas.{not_among}
 use Rattle.sched_box.proofs.folders.is_unanswered.Goals as goal
