@@ -51,7 +51,7 @@ appends_behind (Some xs) (Some ys) (Some zs) line kept added = added ∙ ap (λ 
 
 says_behind : (a b c : Option (List ℕ)) (line : List ℕ) (lost : Bool) → Keeps a b → SaysLine line b c lost → SaysLine line a c lost
 says_behind a b c line lost kept (inl said) = inl (appends_behind a b c line kept said)
-says_behind a b c line lost kept (inr (l, n, begun)) = inr (l, n, appends_behind a b c (take n line) kept begun)
+says_behind a b c line lost kept (inr (l, begun)) = inr (l, (begun.0, appends_behind a b c (take begun.0 line) kept begun.1))
 
 -- what was said at the end of a run, and then of its report
 said_logged : (fault : Option WriteFault) (ended : Result BoxReport BoxFault) (before status : ℕ) (a b c : Option (List ℕ)) (lost_before lost : Bool) → before ≡ run_status ended → SaysRun ended a b lost_before
@@ -60,22 +60,22 @@ said_logged None ended before status a b c lost_before lost is says (same, kept,
     let P : Bool → Type 0 = λ l. SaysRun ended a b l in
     let Q : Option (List ℕ) → Type 0 = λ o. SaysRun ended a o lost in
     (same ∙ is, subst Q (sym kept) (subst P (sym marked) says))
-said_logged (Some fault) (Ok report) before status a b c lost_before lost is says (inl (not_done, rest)) = absurd (not_done is)
+said_logged (Some fault) (Ok report) before status a b c lost_before lost is says (inl (not_done, same, kept, marked)) = absurd (not_done is)
 said_logged (Some fault) (Ok report) before status a b c lost_before lost is says (inr (done, status_is, said)) = (status_is, says_behind a b c (write_text fault) lost says said)
 said_logged (Some fault) (Err ending) before status a b c lost_before lost is says (inl (not_done, same, kept, marked)) =
     let P : Bool → Type 0 = λ l. SaysLine (box_text ending) a b l in
     let Q : Option (List ℕ) → Type 0 = λ o. SaysLine (box_text ending) a o lost in
     (same ∙ is, subst Q (sym kept) (subst P (sym marked) says))
-said_logged (Some fault) (Err ending) before status a b c lost_before lost is says (inr (done, rest)) = absurd (box_fails ending (sym is ∙ done))
+said_logged (Some fault) (Err ending) before status a b c lost_before lost is says (inr (done, status_is, said)) = absurd (box_fails ending (sym is ∙ done))
 
-pub runs_logged : (fault : Option WriteFault) (before status : ℕ) (config : List ℕ) (MayEnd : Config → Result BoxReport BoxFault → Type 0) (a b c : Option (List ℕ)) (lost_before lost : Bool) (Same : Type 0)
-    → (RunsNone before config a b lost_before × Same) ⊎ RunsWith before config MayEnd a b lost_before → EndsLogged fault before status b c lost_before lost
-    → (RunsNone status config a c lost × Same) ⊎ RunsLogged fault status config MayEnd a c lost
-runs_logged fault before status config MayEnd a b c lost_before lost Same (inl (none, same)) ends = inl (none_logged fault none ends, same)
+pub runs_logged : (fault : Option WriteFault) (before status : ℕ) (config : List ℕ) (MayEnd : Config → Result BoxReport BoxFault → Type 0) (a b c : Option (List ℕ)) (lost_before lost : Bool) (In Out : Type 0)
+    → (RunsNone before config a b lost_before × In × Out) ⊎ RunsWith before config MayEnd a b lost_before → EndsLogged fault before status b c lost_before lost
+    → (RunsNone status config a c lost × In × Out) ⊎ RunsLogged fault status config MayEnd a c lost
+runs_logged fault before status config MayEnd a b c lost_before lost In Out (inl (none, same_in, same_out)) ends = inl (none_logged fault none ends, same_in, same_out)
   where
     some : RunsNone before config a b lost_before → before ≡ 0 → ⊥
-    some (inl (is, rest)) e = absurd (omega arith)
-    some (inr (is, rest)) e = absurd (omega arith)
+    some (inl (is, no_box, said)) e = absurd (omega arith)
+    some (inr (is, said)) e = absurd (omega arith)
 
     as_it_was : status ≡ before → c ≡ b → lost ≡ lost_before → RunsNone before config a b lost_before → RunsNone status config a c lost
     as_it_was is kept marked none =
@@ -87,8 +87,8 @@ runs_logged fault before status config MayEnd a b c lost_before lost Same (inl (
     none_logged : (f : Option WriteFault) → RunsNone before config a b lost_before → EndsLogged f before status b c lost_before lost → RunsNone status config a c lost
     none_logged None none (is, kept, marked) = as_it_was is kept marked none
     none_logged (Some f) none (inl (not_done, is, kept, marked)) = as_it_was is kept marked none
-    none_logged (Some f) none (inr (done, rest)) = absurd (some none done)
-runs_logged fault before status config MayEnd a b c lost_before lost Same (inr with') ends = inr (record {
+    none_logged (Some f) none (inr (done, is, said)) = absurd (some none done)
+runs_logged fault before status config MayEnd a b c lost_before lost In Out (inr with') ends = inr (record {
   closed = with'.closed;
   hosts = with'.hosts;
   spells = with'.spells;
@@ -99,14 +99,14 @@ runs_logged fault before status config MayEnd a b c lost_before lost Same (inr w
 
 -- where the status is 0 the run's was, and no line is missing
 pub done_logged : (fault : Option WriteFault) (before status : ℕ) (a b : Option (List ℕ)) (lost_before lost : Bool) → EndsLogged fault before status a b lost_before lost → status ≡ 0 → (fault ≡ None) × (before ≡ 0)
-done_logged None before status a b lost_before lost (is, rest) done = (refl, sym is ∙ done)
-done_logged (Some fault) before status a b lost_before lost (inl (not_done, is, rest)) done = absurd (not_done (sym is ∙ done))
+done_logged None before status a b lost_before lost (is, kept, marked) done = (refl, sym is ∙ done)
+done_logged (Some fault) before status a b lost_before lost (inl (not_done, is, kept, marked)) done = absurd (not_done (sym is ∙ done))
 done_logged (Some fault) before status a b lost_before lost (inr (was, is, said)) done = absurd (write_fails fault (sym is ∙ done))
 
 -- where it is 4 the run's was, or a writer of lines has failed
 device_logged : (fault : Option WriteFault) (before status : ℕ) (a b : Option (List ℕ)) (lost_before lost : Bool) → EndsLogged fault before status a b lost_before lost → status ≡ 4 → (before ≡ 4) ⊎ (fault ≡ Some write.Failed)
-device_logged None before status a b lost_before lost (is, rest) four = inl (sym is ∙ four)
-device_logged (Some fault) before status a b lost_before lost (inl (not_done, is, rest)) four = inl (sym is ∙ four)
+device_logged None before status a b lost_before lost (is, kept, marked) four = inl (sym is ∙ four)
+device_logged (Some fault) before status a b lost_before lost (inl (not_done, is, kept, marked)) four = inl (sym is ∙ four)
 device_logged (Some write.Failed) before status a b lost_before lost (inr (was, is, said)) four = inr refl
 device_logged (Some write.Memory) before status a b lost_before lost (inr (was, is, said)) four = absurd (omega arith)
 
@@ -124,13 +124,13 @@ device_of A B fault before status a b lost_before lost ends cause four = at (dev
 
 -- where it isn't, the run's wasn't
 pub no_device_logged : (fault : Option WriteFault) (before status : ℕ) (a b : Option (List ℕ)) (lost_before lost : Bool) → EndsLogged fault before status a b lost_before lost → (status ≡ 4 → ⊥) → before ≡ 4 → ⊥
-no_device_logged None before status a b lost_before lost (is, rest) no four = no (is ∙ four)
-no_device_logged (Some fault) before status a b lost_before lost (inl (not_done, is, rest)) no four = no (is ∙ four)
-no_device_logged (Some fault) before status a b lost_before lost (inr (was, is, said)) no four = absurd (omega arith)
+no_device_logged None before status a b lost_before lost (is, kept, marked) other four = other (is ∙ four)
+no_device_logged (Some fault) before status a b lost_before lost (inl (not_done, is, kept, marked)) other four = other (is ∙ four)
+no_device_logged (Some fault) before status a b lost_before lost (inr (was, is, said)) other four = absurd (omega arith)
 
 pub status_logged : (fault : Option WriteFault) (before status : ℕ) (a b : Option (List ℕ)) (lost_before lost : Bool) → EndsLogged fault before status a b lost_before lost
     → (before ≡ 0) ⊎ (before ≡ 3) ⊎ (before ≡ 4) ⊎ (before ≡ 5) → (status ≡ 0) ⊎ (status ≡ 3) ⊎ (status ≡ 4) ⊎ (status ≡ 5)
-status_logged None before status a b lost_before lost (is, rest) one = let P : ℕ → Type 0 = λ s. (s ≡ 0) ⊎ (s ≡ 3) ⊎ (s ≡ 4) ⊎ (s ≡ 5) in subst P (sym is) one
-status_logged (Some fault) before status a b lost_before lost (inl (not_done, is, rest)) one = let P : ℕ → Type 0 = λ s. (s ≡ 0) ⊎ (s ≡ 3) ⊎ (s ≡ 4) ⊎ (s ≡ 5) in subst P (sym is) one
+status_logged None before status a b lost_before lost (is, kept, marked) one = let P : ℕ → Type 0 = λ s. (s ≡ 0) ⊎ (s ≡ 3) ⊎ (s ≡ 4) ⊎ (s ≡ 5) in subst P (sym is) one
+status_logged (Some fault) before status a b lost_before lost (inl (not_done, is, kept, marked)) one = let P : ℕ → Type 0 = λ s. (s ≡ 0) ⊎ (s ≡ 3) ⊎ (s ≡ 4) ⊎ (s ≡ 5) in subst P (sym is) one
 status_logged (Some write.Failed) before status a b lost_before lost (inr (was, is, said)) one = inr (inr (inl is))
 status_logged (Some write.Memory) before status a b lost_before lost (inr (was, is, said)) one = inr (inr (inr is))

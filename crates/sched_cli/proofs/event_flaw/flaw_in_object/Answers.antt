@@ -12,8 +12,8 @@ returns c =
     let lines = subst (λ o. IfSome o (λ text. text ≡ logical_lines octets)) c.in-Some.is c.in_ok-text.ensures in
     let object = c.in-Some-2.object in
     let spelled = subst (λ o. IfSome o (λ x. IsObjectOf true x c.in-Some.text)) c.in-Some-2.is c.in_ok-object.ensures in
-    let found = c.in-Some-3.found in
-    let has = subst (λ o. IfSome o (FlawIn (component_children object))) c.in-Some-3.is c.first_flaw.ensures in
+    let found = c.in-Some-first_flaw.found in
+    let has = subst (λ o. IfSome o (FlawIn (component_children object))) c.in-Some-first_flaw.is c.first_flaw.ensures in
     IfOk-weaker c.placed.result _ _
     (λ flaw h. IfSome_then flaw {Q = IsFlawIn octets} h
     (λ it placed. record {

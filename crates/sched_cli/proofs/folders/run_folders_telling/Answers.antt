@@ -11,10 +11,10 @@ returns-in-Err-clause-runs g c =
 pub returns-in-Err-clause-tells : goal.returns-in-Err-clause-tells
 returns-in-Err-clause-tells g c = λ done in_known out_known. absurd (read_fails c.in-Err.fault (sym c.report_read.ensures.status ∙ done))
 
-pub returns-in-Ok-clause-tells : goal.returns-in-Ok-clause-tells
-returns-in-Ok-clause-tells g c = λ done in_known out_known.
+pub returns-in-Ok-run_box_telling-clause-tells : goal.returns-in-Ok-run_box_telling-clause-tells
+returns-in-Ok-run_box_telling-clause-tells g c = λ done in_known out_known.
     let (closed, spells) = c.in-Ok.ensures.reads in
-    (closed, config_hosts c.in-Ok.config, spells, c.in-Ok-2.ensures.tells in_known out_known)
+    (closed, config_hosts c.in-Ok.config, spells, c.in-Ok-run_box_telling.ensures.tells in_known out_known)
 
-pub returns-in-Err-2-clause-tells : goal.returns-in-Err-2-clause-tells
-returns-in-Err-2-clause-tells g c = λ done in_known out_known. absurd (box_fails c.in-Err-2.fault (sym c.report_box.ensures.status ∙ done))
+pub returns-clause-tells : goal.returns-clause-tells
+returns-clause-tells g c = λ done in_known out_known. absurd (box_fails c.in-Err-run_box_telling.fault (sym c.report_box.ensures.status ∙ done))
