@@ -1,7 +1,7 @@
 -- What was handed on, piece by piece, and what was said of it.
-use Rattle.std.proofs.Common.{◌≡◌, ◌⊎◌, inl, inr, ℕ, Bool, true, false, List, [], ◌∷◌, ◌++◌, take, drop, get_or, map, length, ◌<◌, ◌+◌, Option, Some, None, Result, Ok, Err, OnOk, OnErr, IfOk, IfErr, sym, ap, subst, ◌∙◌, refl, arith, append-nil, append_assoc}
-use Rattle.std.specs.Io.KnownBytes.{Appends, Keeps}
-use Rattle.std.proofs.KnownBytes.{Appends-nil, Keeps-refl}
+use Rattle.std.proofs.Common.{◌≡◌, ◌⊎◌, inl, inr, ℕ, Bool, true, false, List, [], ◌∷◌, ◌++◌, take, get_or, map, length, ◌<◌, ◌+◌, Option, Result, Ok, Err, OnOk, IfOk, IfErr, sym, ap, subst, ◌∙◌, refl, arith, append-nil, append_assoc}
+use Rattle.std.specs.Io.KnownBytes.{Appends}
+use Rattle.std.proofs.KnownBytes.{Keeps-refl}
 use Rattle.profile.specs.text.Trees.{Tree}
 use Rattle.sched_doors.specs.Handing.{Passes}
 use Rattle.sched_cli.specs.declared.adapt.AdaptFault.{AdaptFault}

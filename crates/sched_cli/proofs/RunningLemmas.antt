@@ -1,5 +1,5 @@
 -- Why no box was run.
-use Rattle.std.proofs.Common.{◌≡◌, ◌==◌, ◌⊎◌, ◌∙◌, true, ℕ, Bool, List, ◌++◌, Option, Some, None, Result, Ok, Err, take, inl, inr, refl, sym, ap, subst, arith}
+use Rattle.std.proofs.Common.{◌≡◌, ◌⊎◌, ◌∙◌, true, ℕ, Bool, List, ◌++◌, Option, Some, None, Result, Ok, Err, take, inl, inr, refl, sym, ap, subst, arith}
 use Rattle.std.proofs.lemmas.Bool.Decides.{nat_tests}
 use Rattle.ical_lines.specs.Fault.{RefusesOnly}
 use Rattle.ical_lines.specs.declared.fault.Fault.{Fault}

@@ -1,5 +1,5 @@
 -- What `agenda` prints of a room's calendar in a span, and of when the room is free.
-use Rattle.std.specs.Prelude.{◌≡◌, ◌↔◌, ℕ, ℤ, Bool, IsTrue, if◌then◌else◌, List, Option, option_map}
+use Rattle.std.specs.Prelude.{◌≡◌, ◌↔◌, ℕ, ℤ, Bool, IsTrue, if◌then◌else◌, List, Option}
 use Rattle.std.specs.Io.KnownBytes.{Appends}
 use Rattle.profile.specs.checker.Instances.{Instance}
 use Rattle.profile.specs.checker.Agendas.{AreInSpan, AreFreeSpans}

@@ -51,9 +51,9 @@ returns-clause-runs g c =
     let new = c.run_folders_telling-status.new.outbox in
     let inbox = c.run_folders_telling-status.new.inbox in
     let MayEnd : Config → Result BoxReport BoxFault → Type 0 = λ hosts result.
-        g.I.Folder.is_known c.args.inbox.now ≡ true → g.O.Folder.is_known old ≡ true → LosesNamesAlone (g.O.Folder.image old) (g.O.Folder.may_leave old)
-        → Runs (g.I.Folder.image c.args.inbox.now) hosts (record { start = g.O.Folder.image old; now = g.O.Folder.image new; first = g.O.Folder.moment old; last = g.O.Folder.moment new })
-        (g.O.Folder.may_leave old) (g.O.Folder.may_leave new) (g.O.Folder.left_since new) result in
+    g.I.Folder.is_known c.args.inbox.now ≡ true → g.O.Folder.is_known old ≡ true → LosesNamesAlone (g.O.Folder.image old) (g.O.Folder.may_leave old)
+    → Runs (g.I.Folder.image c.args.inbox.now) hosts (record { start = g.O.Folder.image old; now = g.O.Folder.image new; first = g.O.Folder.moment old; last = g.O.Folder.moment new })
+    (g.O.Folder.may_leave old) (g.O.Folder.may_leave new) (g.O.Folder.left_since new) result in
     runs_logged _ c.run_folders_telling-status.result c.end_folders.result c.args.config.now MayEnd (g.E.Output.contents c.args.errors.now) (g.E.Output.contents errors) (g.E.Output.contents ended) (g.E.Output.may_lose errors) (g.E.Output.may_lose ended)
     (inbox ≡ c.args.inbox.now) (new ≡ old) c.run_folders_telling-status.ensures.runs ends
 

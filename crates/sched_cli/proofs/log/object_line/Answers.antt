@@ -12,6 +12,10 @@ returns c =
     let header = header_text method uid organizer in
     let one = c.append_place.new.line.items in
     let two = c.append_fate.new.line.items in
-    let three = c.append_header.new.line.items in
-    (method, uid, organizer, four_joined [] one two three c.extend_from_slice.new.self.items place words header (codes "\n")
-    (c.in_ok-append_place.ensures ∙ ap (λ z. z ++ place) c.new-line.ensures.items) c.in_ok-append_fate.ensures is c.in_ok-extend_from_slice.ensures.items)
+    let three = c.append_header.new.line.items in (
+      method,
+      uid,
+      organizer,
+      four_joined [] one two three c.extend_from_slice.new.self.items place words header (codes "\n")
+          (c.in_ok-append_place.ensures ∙ ap (λ z. z ++ place) c.new-line.ensures.items) c.in_ok-append_fate.ensures is c.in_ok-extend_from_slice.ensures.items,
+    )

@@ -1,4 +1,4 @@
-use Rattle.std.proofs.Common.{◌∙◌, ◌++◌, ap, sym, arith}
+use Rattle.std.proofs.Common.{sym, arith}
 use Rattle.std.proofs.lemmas.List.{append-nil}
 use Rattle.ical_values.proofs.AllOrNone.{one_more, all_of_them}
 use Rattle.sched_cli.specs.Logging.{shown_octet}

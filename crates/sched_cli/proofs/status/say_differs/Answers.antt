@@ -1,4 +1,4 @@
-use Rattle.std.proofs.Common.{◌≡◌, ◌++◌, ℕ, List, [], codes, ap, sym, refl}
+use Rattle.std.proofs.Common.{◌≡◌, ◌++◌, [], codes, ap, sym, refl}
 use Rattle.std.proofs.KnownBytes.{Appends-nil, Appends-trans}
 use Rattle.sched_cli.specs.Running.{differs_text}
 use Rattle.sched_cli.proofs.Saying.{put_says, stopped_says}
