@@ -441,10 +441,10 @@ def back_case(spoiler):
 
 
 def agenda_case(spoiler):
-    words = []
-    for name in ("--from", "--until"):
-        if spoiler.chance.random() < 0.9:
-            words += [name, spoiler.chance.choice(("20250301T000000Z", "20250310T090000Z", "20260101T000000Z", spoiler.chance.choice(TIMES)))]
+    """Each has an end: without one two daily series are 343 MB, which take their time."""
+    words = ["--until", spoiler.chance.choice(("20250310T090000Z", "20260101T000000Z"))]
+    if spoiler.chance.random() < 0.9:
+        words += ["--from", spoiler.chance.choice(("20250301T000000Z", "20250310T090000Z", "20251231T000000Z", spoiler.chance.choice(TIMES)))]
     return Case(["agenda", "calendar", ROOM, *words, *spoiler.chance.choice(([], ["--free"], ["--ics"], ["--html"], ["--zone=-0500 -0400 11 1SU 0200 3 2SU 0200"]))],
                 files={"calendar": spoiler.spoiled("calendar", spoiler.chance.choice((0, 1, None)))})
 
