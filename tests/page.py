@@ -143,6 +143,10 @@ def wanted_days(found, start, end, name):
     return days
 
 
+def in_one_order(days):
+    return [(heading, sorted(blocks)) for heading, blocks in days]
+
+
 def faults_of(text, name, found, start, end, zone):
     """What is wrong with a page of these instances; nothing where it is as it has to be."""
     page = Page(text)
@@ -153,7 +157,8 @@ def faults_of(text, name, found, start, end, zone):
         page.faults.append(f"around it: {page.texts.get('h1')}, {page.texts.get('title')}, {page.texts.get('p')}")
     if not text.startswith("<!doctype html>\n<html lang=\"en\">\n") or "://" in text or "url(" in text or set(page.texts) != {"title", "style", "h1", "p"}:
         page.faults.append("more than a page")
-    if said != wanted:
+    # of instances that start together the first is the one of the lesser key, which isn't reckoned here
+    if in_one_order(said) != in_one_order(wanted) or any(blocks != sorted(blocks, key=lambda it: it[2]) for _, blocks in said):
         page.faults.append(f"said {said}, wanted {wanted}")
     return page.faults
 
