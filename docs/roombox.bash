@@ -17,7 +17,7 @@ _roombox() {
     keep) options="--certificate --adapt --zones --help" ;;
     meetings) options="--adapt --zones --help" ;;
     adapt) options="--zones --report --reply-to --single --help" ;;
-    agenda) options="--from --until --zone --free --ics --help" ;;
+    agenda) options="--from --until --zone --free --ics --html --help" ;;
     check) options="--help" ;;
     expand) options="--limit --zone --help" ;;
     explain) options="--help" ;;
