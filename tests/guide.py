@@ -707,12 +707,13 @@ def explained_objects(cases, program):
         ("a period", "56 at line 11: RDATE", {10: "DURATION:PT1H|RDATE;VALUE=PERIOD:20250311T090000Z/PT1H"}),
         ("PUBLISH", "60 at line 3: METHOD", {3: "METHOD:PUBLISH"}),
         ("no UID", "61 at line 4: BEGIN\nVEVENT at line 4: it has no UID.", {5: ""}),
-        ("UID twice", "61 at line 6: UID\nVEVENT at line 4: UID occurs twice in it.", {5: "UID:a|UID:a"}),
+        ("UID twice", "61 at line 6: UID\nVEVENT at line 4: UID occurs twice in it.", {5: "UID:a|UID:b"}),
+        ("two lines alike, of which the first is named", "61 at line 5: UID\nVEVENT at line 4: UID occurs twice in it.", {5: "UID:a|UID:a"}),
         ("no DTSTAMP", "61 at line 4: BEGIN\nVEVENT at line 4: it has no DTSTAMP.", {6: ""}),
         ("no DTSTART", "61 at line 4: BEGIN\nVEVENT at line 4: it has no DTSTART.", {9: ""}),
         ("no DTSTART in an ADD", "61 at line 4: BEGIN\nVEVENT at line 4: it has no DTSTART.", {3: "METHOD:ADD", 9: ""}),
         ("no DTSTART in a store, which needs no DTSTAMP", "61 at line 3: BEGIN\nVEVENT at line 3: it has no DTSTART.", {3: "", 6: "", 9: ""}),
-        ("SEQUENCE twice", "61 at line 12: SEQUENCE\nVEVENT at line 4: SEQUENCE occurs twice in it.", {10: "DURATION:PT1H|SEQUENCE:1|SEQUENCE:1"}),
+        ("SEQUENCE twice", "61 at line 12: SEQUENCE\nVEVENT at line 4: SEQUENCE occurs twice in it.", {10: "DURATION:PT1H|SEQUENCE:1|SEQUENCE:2"}),
         ("a VEVENT of its own name in lower case", "61 at line 4: begin\nvevent at line 4: it has no UID.", {4: "begin:vevent", 5: "", 11: "end:vevent"}),
         ("DTEND beside DURATION", "61 at line 10: DURATION\nVEVENT at line 4: DURATION stands beside DTEND in it.", {10: "DURATION:PT1H|DTEND:20250310T100000Z"}),
         ("the second of two VEVENTs without a UID", "61 at line 12: BEGIN\nVEVENT at line 12: it has no UID.", {11: "|".join(["END:VEVENT", OBJECT[3], *OBJECT[5:11]])}),
@@ -735,7 +736,8 @@ def explained_objects(cases, program):
         number = wanted.partition(" ")[0]
         meaning = run(program, "explain", number)[1]
         cases.holds(f"explain of an object with {what}", run(program, "explain", given=changed(changes)), (1, f"refused {wanted}\n{meaning}", ""))
-        cases.holds(f"serve refuses {what} with the same number", answers(program, changed(changes)), [f"REFUSED;OBJECT=1:{number}"])
+        # an END:VCALENDAR too early ends the object, and what is behind it is the next one
+        cases.holds(f"serve refuses {what} with the same number", answers(program, changed(changes))[:1], [f"REFUSED;OBJECT=1:{number}"])
     for what, wanted, octets in [
         ("not UTF-8", "5 at line 10", changed({10: "SUMMARY:?|DURATION:PT1H"}).encode().replace(b"?", b"\xff")),
         ("too long", "6", changed({10: "|".join(["DURATION:PT1H"] + ["X-PAD:" + "x" * 1000] * 1100)}).encode()),
@@ -763,7 +765,7 @@ def explained_objects(cases, program):
         cut = subprocess.run(["sh", "-c", recipe.partition(" stream |")[0]], input=stream, capture_output=True).stdout
         cases.holds("the recipe that cuts out the third object", cut.decode(), changed({9: "DTSTART;TZID=Z:20250310T090000"}))
     for method in ("CANCEL", "REPLY", "REFRESH"):
-        lacking = changed({3: f"METHOD:{method}", 9: "", 10: "STATUS:CONFIRMED|STATUS:CONFIRMED"})
+        lacking = changed({3: f"METHOD:{method}", 9: "", 10: "STATUS:CONFIRMED|STATUS:TENTATIVE"})
         said = "refused 61 at line 10: STATUS\nVEVENT at line 4: STATUS occurs twice in it.\n"
         cases.holds(f"explain of a {method} with STATUS twice, which needs no DTSTART", run(program, "explain", given=lacking)[1].partition("61: ")[0], said)
     for method, wanted in [("REQUEST", "a REQUEST"), ("ADD", "an ADD"), ("CANCEL", "a CANCEL"), ("REPLY", "a REPLY"), ("REFRESH", "a REFRESH"), (None, "a store")]:

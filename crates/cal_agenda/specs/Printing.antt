@@ -14,15 +14,15 @@ abbrev pub IsInstantText : ℤ → List ℕ → Type 0
 IsInstantText instant text = WritesStamp text instant ⊎ ((IsClockSeconds instant → ⊥) × (text ≡ codes "-"))
 
 -- the local time that the clocks of a zone show at an instant, by the offset in force; `-` where its year is none from 1 to 9999
-abbrev pub IsLocalText : Zone → ℤ → List ℕ → Type 0
-IsLocalText zone instant text =
+abbrev pub IsLocalTimeText : Zone → ℤ → List ℕ → Type 0
+IsLocalTimeText zone instant text =
     (local : ℤ) × Shows zone instant local × (WritesLocal text local ⊎ ((IsClockSeconds local → ⊥) × (text ≡ codes "-")))
 
 -- those of two instants, with a blank before each; nothing where no zone is given
 abbrev pub AreLocalTimes : Option Zone → ℤ → ℤ → List ℕ → Type 0
 AreLocalTimes None start end text = text ≡ []
 AreLocalTimes (Some zone) start end text =
-    (first : List ℕ) × (last : List ℕ) × IsLocalText zone start first × IsLocalText zone end last × (text ≡ codes " " ++ first ++ codes " " ++ last)
+    (first : List ℕ) × (last : List ℕ) × IsLocalTimeText zone start first × IsLocalTimeText zone end last × (text ≡ codes " " ++ first ++ codes " " ++ last)
 
 -- two instants in UTC, with a blank between, and behind them their local times
 abbrev pub IsTimesText : Option Zone → ℤ → ℤ → List ℕ → Type 0

@@ -3,7 +3,7 @@ ghost use Rattle.std.specs.Prelude.{◌≡◌, ◌++◌, ◌∷◌, ℕ, List, [
 ghost use Rattle.cal_zones.specs.Kinds.{zone_of};
 ghost use Rattle.cal_events.specs.Calendar.{instance_of};
 ghost use Rattle.cal_agenda.specs.Gaps.{ends_of};
-ghost use Rattle.cal_agenda.specs.Printing.{LinesOf, IsAgendaLine, IsFreeLine, IsTimesText, AreLocalTimes, IsInstantText, IsLocalText};
+ghost use Rattle.cal_agenda.specs.Printing.{LinesOf, IsAgendaLine, IsFreeLine, IsTimesText, AreLocalTimes, IsInstantText, IsLocalTimeText};
 
 use cal_events::{Instance, Span};
 use cal_zones::Zone;
@@ -145,7 +145,7 @@ fn instant_text(alloc: Global, instant: i64) -> Result<String, AllocError>
 
 /// The local time that the clocks of a zone show at an instant; `-` where its year is none from 1 to 9999.
 fn local_time_text(alloc: Global, instant: i64, zone: &Zone) -> Result<String, AllocError>
-    ensures { IfOk result (λ text. IsLocalText (zone_of zone.now) instant (string_bytes text)) }
+    ensures { IfOk result (λ text. IsLocalTimeText (zone_of zone.now) instant (string_bytes text)) }
 {
     let offset = zone.offset(instant);
     // Past all numbers it is past year 9999 too, and so before year 1.

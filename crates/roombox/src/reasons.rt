@@ -4,7 +4,7 @@ use crate::host::ErrorPrinter;
 use ical_values::Address;
 use sched_box::config::LONGEST;
 use sched_box::{Config, DeviceWriter, Output};
-use sched_cli::preamble::{Front, append_name, append_preamble_fault, preamble_in};
+use sched_cli::preamble::{Front, preamble_fault, preamble_in, shown_name};
 use sched_cli::status::{DEVICE, REFUSED};
 use std::alloc::{AllocError, Global};
 use std::fs;
@@ -126,7 +126,7 @@ pub(crate) fn say_device<R: Runtime + AllocGlobal>(
 fn device_line(alloc: Global, name: &str, kind: ErrorKind) -> Result<Vec<u8>, AllocError> {
     let mut line = Vec::new(alloc);
     line.extend_from_slice(b"roombox: ")?;
-    append_name(&mut line, name)?;
+    line.extend_from_slice(&shown_name(alloc, name)?)?;
     line.extend_from_slice(b": ")?;
     line.extend_from_slice(words_of(kind).as_bytes())?;
     line.extend_from_slice(b"\n")?;
@@ -214,39 +214,35 @@ fn refused_line(
     front: Front,
     wanted: Wanted<'_>,
 ) -> Result<Vec<u8>, AllocError> {
-    let mut line = Vec::new(alloc);
-    append_preamble_fault(alloc, &mut line, octets, front)?;
+    let line = preamble_fault(alloc, octets, front)?;
     if !line.is_empty() {
         return Ok(line);
     }
-    if let Ok((config, _)) = Config::read_with_now(alloc, preamble_in(octets)) {
-        append_unnamed(&mut line, &config, wanted)?;
+    match Config::read_with_now(alloc, preamble_in(octets)) {
+        Ok((config, _)) => unnamed_line(alloc, &config, wanted),
+        Err(_) => Ok(line),
     }
-    Ok(line)
 }
 
-/// Appends that a preamble doesn't name who is wanted, if it doesn't.
-fn append_unnamed(
-    line: &mut Vec<u8>,
-    config: &Config,
-    wanted: Wanted<'_>,
-) -> Result<(), AllocError> {
+/// That a preamble doesn't name who is wanted; nothing where it does.
+fn unnamed_line(alloc: Global, config: &Config, wanted: Wanted<'_>) -> Result<Vec<u8>, AllocError> {
+    let mut line = Vec::new(alloc);
     let (is_named, who, address) = match wanted {
-        Wanted::All => return Ok(()),
+        Wanted::All => return Ok(line),
         Wanted::Room(room) => (config.has_room(room), "room", room),
         Wanted::Organiser(organiser) => {
             (config.has_organiser(organiser), "organiser", organiser)
         }
     };
     if is_named {
-        return Ok(());
+        return Ok(line);
     }
     line.extend_from_slice(b"roombox: the preamble doesn't name the ")?;
     line.extend_from_slice(who.as_bytes())?;
     line.extend_from_slice(b" ")?;
-    append_name(line, address.as_str())?;
+    line.extend_from_slice(&shown_name(alloc, address.as_str())?)?;
     line.extend_from_slice(b"\n")?;
-    Ok(())
+    Ok(line)
 }
 
 /// Says why a folder of this path can't be listed, if it can't. Gives the status.

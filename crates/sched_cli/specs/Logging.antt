@@ -11,8 +11,8 @@ abbrev pub is_shown : ℕ → Bool
 is_shown octet = nat_le 32 octet && nat_le octet 126
 
 -- it is shown as it is: what is printable, but `%`
-abbrev pub is_plain : ℕ → Bool
-is_plain octet = is_shown octet && not (octet == 37)
+abbrev pub is_printed_plain : ℕ → Bool
+is_printed_plain octet = is_shown octet && not (octet == 37)
 
 -- the hexadecimal digit of a number below 16
 abbrev pub hex_digit : ℕ → ℕ
@@ -20,7 +20,7 @@ hex_digit n = if nat_lt n 10 then 48 + n else (if nat_lt n 16 then 55 + n else 7
 
 -- each other octet as `%` and two hexadecimal digits
 abbrev pub shown_octet : ℕ → List ℕ
-shown_octet octet = if is_plain octet then octet ∷ [] else (37 ∷ hex_digit (octet / 16) ∷ hex_digit (octet % 16) ∷ [])
+shown_octet octet = if is_printed_plain octet then octet ∷ [] else (37 ∷ hex_digit (octet / 16) ∷ hex_digit (octet % 16) ∷ [])
 
 abbrev pub shown : List ℕ → List ℕ
 shown octets = flat_map shown_octet octets

@@ -1,5 +1,8 @@
 //! Which line of a preamble or a configuration can't be read, and why: said behind `refused 90`.
 
+ghost use Rattle.std.specs.Prelude.{◌≡◌, IfOk};
+ghost use Rattle.sched_cli.specs.Logging.{cut_shown};
+
 use crate::shown::append_cut;
 use cal_zones::RoomZone;
 use ical_lines::Fault;
@@ -68,21 +71,18 @@ struct Named {
 
 /// `roombox: line 3: a line before it names this room: room mailto:r1@example.com`, as a line, of octets that are refused with 90: which line can't
 /// be read, and why. Nothing where nothing is wrong with them. Each line is looked at once, and its address beside those before it.
-pub fn append_preamble_fault(
-    alloc: Global,
-    out: &mut Vec<u8>,
-    octets: &[u8],
-    front: Front,
-) -> Result<(), AllocError> {
+pub fn preamble_fault(alloc: Global, octets: &[u8], front: Front) -> Result<Vec<u8>, AllocError> {
     let octets = preamble_in(octets);
+    let mut line = Vec::new(alloc);
     let Some(found) = found_in(alloc, octets, front)? else {
-        return Ok(());
+        return Ok(line);
     };
-    out.extend_from_slice(b"roombox: ")?;
-    append_number(out, found.line)?;
-    out.extend_from_slice(found.why.words().as_bytes())?;
-    append_text(out, octets, found.line)?;
-    out.extend_from_slice(b"\n")
+    line.extend_from_slice(b"roombox: ")?;
+    append_number(&mut line, found.line)?;
+    line.extend_from_slice(found.why.words().as_bytes())?;
+    append_text(&mut line, octets, found.line)?;
+    line.extend_from_slice(b"\n")?;
+    Ok(line)
 }
 
 /// `line 3: `; nothing of line 0.
@@ -355,7 +355,11 @@ pub fn preamble_in(octets: &[u8]) -> &[u8] {
     octets
 }
 
-/// The name of a file or of another device, as it is shown.
-pub fn append_name(out: &mut Vec<u8>, name: &str) -> Result<(), AllocError> {
-    append_cut(out, name.as_bytes())
+/// The name of a file or of another device, as it is shown: in printable ASCII, and at most 200 octets of it.
+pub fn shown_name(alloc: Global, name: &str) -> Result<Vec<u8>, AllocError>
+    ensures { IfOk result (λ text. text.items ≡ cut_shown name.now) }
+{
+    let mut text = Vec::new(alloc);
+    append_cut(&mut text, name.as_bytes())?;
+    Ok(text)
 }

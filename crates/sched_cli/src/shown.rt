@@ -1,7 +1,7 @@
 //! Octets of others as they are shown on standard error: in printable ASCII, on one line, and not too many.
 
 ghost use Rattle.std.specs.Prelude.{◌≡◌, ◌++◌, ◌<◌, OnOk};
-ghost use Rattle.sched_cli.specs.Logging.{cut_shown, hex_digit, is_plain, shown, shown_octet};
+ghost use Rattle.sched_cli.specs.Logging.{cut_shown, hex_digit, is_printed_plain, shown, shown_octet};
 
 use std::alloc::AllocError;
 
@@ -33,7 +33,7 @@ pub(crate) fn append_shown(line: &mut Vec<u8>, octets: &[u8]) -> Result<(), Allo
 fn append_octet(line: &mut Vec<u8>, octet: u8) -> Result<(), AllocError>
     ensures { OnOk result (line.new.items ≡ line.old.items ++ shown_octet octet) }
 {
-    if is_plain(octet) {
+    if is_printed_plain(octet) {
         line.extend_from_slice(&[octet])
     } else {
         line.extend_from_slice(&[b'%', hex_digit(octet / 16), hex_digit(octet % 16)])
@@ -41,8 +41,8 @@ fn append_octet(line: &mut Vec<u8>, octet: u8) -> Result<(), AllocError>
 }
 
 /// Whether an octet is shown as it is.
-fn is_plain(octet: u8) -> bool
-    ensures { result ≡ is_plain octet }
+fn is_printed_plain(octet: u8) -> bool
+    ensures { result ≡ is_printed_plain octet }
 {
     octet >= b' ' && octet <= b'~' && octet != b'%'
 }
