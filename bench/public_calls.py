@@ -25,6 +25,7 @@ NOT_PUT_BACK = {
     "Input": "octets that were read are gone; other clauses say which",
     "Output": "octets that were written are gone; other clauses say which",
     "Folder": "it stands for a disk; other clauses say what a failure may leave",
+    "Journal": "what it was told is told; other clauses say of which objects",
 }
 # The word of a definition that is all that a value means to others: a clause that it is the same holds after a failure too.
 WHOLE_MEANING = {
