@@ -4,9 +4,10 @@
 //!   the outbox does, and a stop may take the name away;
 //! - `fail-in K`, `fail-out K`: the K-th call of the folder fails; `half-out K`: it is done, and fails then; `stop-in K`, `stop-out K`: the machine
 //!   stops at it; `failed-always`: the outbox is empty and has failed as often as a count goes;
-//! - `run`: what comes of a run; `command`: the status of the command and what it says; `has NAME FILES`: whether the outbox holds these octets there;
-//!   `names`: its names; `calls`: its calls so far; `restart kept FILES`, `restart lost FILES`: the machine starts again, names that weren't synced are
-//!   there or not, and what wasn't synced has these octets.
+//! - `run`: what comes of a run; `runs`: how many files one finds, or the next where it finds no memory; `command`: the status of the command and
+//!   what it says; `has NAME FILES`: whether the outbox holds these octets there; `names`: its names; `calls`: its calls so far;
+//!   `restart kept FILES`, `restart lost FILES`: the machine starts again, names that weren't synced are there or not, and what wasn't synced has
+//!   these octets.
 
 use crate::words::call_word;
 use example_cases::answers::{append, equality, none};
@@ -50,6 +51,7 @@ impl Scene {
         let (word, rest) = step.split_once(' ').unwrap_or((step, ""));
         match word {
             "run" => answers.add(self.run_text()?.as_str())?,
+            "runs" => answers.add(self.runs_text()?.as_str())?,
             "command" => answers.add(self.command_text()?.as_str())?,
             "names" => answers.add(self.names()?.as_str())?,
             "calls" => answers.add(self.calls()?.as_str())?,
@@ -101,6 +103,18 @@ impl Scene {
             Err(BoxFault::Device) => Ok(String::from_str(alloc, "device")?),
             Err(BoxFault::Memory) => Err(NoAnswer::Memory),
         }
+    }
+
+    /// How many files a run finds, or the next one where it finds no memory; and how many runs there were.
+    fn runs_text(&mut self) -> Result<String, NoAnswer> {
+        let alloc = self.alloc;
+        let first = self.run()?;
+        let (last, runs) = match first {
+            Err(BoxFault::Memory) => (self.run()?, 2u32),
+            ended => (ended, 1),
+        };
+        let report = last.map_err(|_| NoAnswer::Unreadable)?;
+        Ok(format!(in alloc; "{} files, {runs} runs", report.files)?)
     }
 
     /// The status of the command, and what it says.
