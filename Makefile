@@ -16,7 +16,7 @@ DOCUMENT_FILES := README.md CHANGELOG.md $(wildcard docs/*.* docs/*/*.* examples
 
 .PHONY: try run test attack bench fuzz man layout tables install uninstall deb clean
 
-# Answers the first request in about 1 minute. Nothing is proved this way.
+# Answers the first request in about 2 minutes. Nothing is proved this way.
 try:
 	@cd crates/roombox && $(RT) try < ../../$(EXAMPLE)
 	@echo "(nothing was proved: 'make run' proves what it runs)"
