@@ -206,7 +206,8 @@ def by_hand(program):
     return len(cases()) + 2, faults
 
 
-def main():
+def tried(by_hand, random_cases):
+    """Tries the cases by hand and so many random ones of a seed, as the command line says; the status."""
     program, count, seed = sys.argv[1], int((sys.argv[2:] or [60])[0]), int((sys.argv[3:] or [1])[0])
     cases_, faults = map(sum, zip(by_hand(program), random_cases(program, count, seed)))
     print(f"{cases_} cases, {faults} failed")
@@ -214,4 +215,4 @@ def main():
 
 
 if __name__ == "__main__":
-    sys.exit(main())
+    sys.exit(tried(by_hand, random_cases))

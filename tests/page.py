@@ -16,7 +16,7 @@ from html.parser import HTMLParser
 from pathlib import Path
 from zoneinfo import ZoneInfo
 
-from agenda import EMPTY, ONE, ZONES, free, instances
+from agenda import EMPTY, ONE, ZONES, free, instances, tried
 from certificate_by_dateutil import DAY, ROOM, Calendar, calendar_text, moment, stamp
 
 START = moment("20250101T000000Z")
@@ -301,12 +301,5 @@ def random_cases(program, count, seed):
     return 3 * count, faults
 
 
-def main():
-    program, count, seed = sys.argv[1], int((sys.argv[2:] or [60])[0]), int((sys.argv[3:] or [1])[0])
-    cases_, faults = map(sum, zip(by_hand(program), random_cases(program, count, seed)))
-    print(f"{cases_} cases, {faults} failed")
-    return 1 if faults else 0
-
-
 if __name__ == "__main__":
-    sys.exit(main())
+    sys.exit(tried(by_hand, random_cases))
