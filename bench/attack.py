@@ -5,8 +5,8 @@
 With no crate: all that have a folder planted/. --since takes the crates that changed since a commit, and those above them.
 
 The edits are in crates/NAME/planted/*.edit, in the form of must-fail/: a line `file: src/lib.rt`, then pairs of lines `old: TEXT` and
-`new: TEXT`, where the old text occurs once in the file. `rt ci` tries those of must-fail/ one by one; these are tried in rounds, for a
-fifth of the time or less. A round is one `rt check --jobs 1` of a fresh copy of the proved crate with edits of different functions in it. Each
+`new: TEXT`, where the old text occurs once in the file; here a text may go on with the lines below it. `rt ci` tries those of must-fail/ one
+by one; these are tried in rounds, for a fifth of the time or less. A round is one `rt check --jobs 1` of a fresh copy of the proved crate with edits of different functions in it. Each
 edit is judged by the goals of its own function: a function that fails only because it calls another one doesn't count. What is outside
 src/, or in no function's body, is tried alone, and so is each edit that its round didn't refuse. An edit is let through where the crate is
 still proved with it alone; one that can't be applied or read shows nothing, and counts as let through.
@@ -23,7 +23,7 @@ import tempfile
 from collections import namedtuple
 from concurrent.futures import ThreadPoolExecutor
 
-from repository import ROOT, RT, copied, crates_below
+from repository import ROOT, RT, copied, crates_below, pairs_of
 
 FUNCTION = re.compile(r"^( *)(?:pub(?:\([^)]*\))? )?(?:const )?(?:unsafe )?fn (\w+)")
 IMPL = re.compile(r"^impl(?:<[^{]*?>)? (?:([\w:]+)(?:<.*>)? for )?&?(?:'\w+ )?(?:mut )?(\w+)")
@@ -58,23 +58,17 @@ def function_at(crate, file, text, place):
 
 def read_edit(crate, path):
     """An edit of a file, and why it can't be applied, if so."""
-    pairs, functions, texts, file, old, wrong = [], set(), {}, "", None, None
-    for line in path.read_text(encoding="utf-8").split("\n"):
-        if line.startswith("file: "):
-            file = line[len("file: ") :].strip()
-        elif line.startswith("old: "):
-            old = line[len("old: ") :]
-        elif line.startswith("new:") and old is not None:
-            new = line[len("new:") :].removeprefix(" ")
-            source = ROOT / "crates" / crate / file
-            text = texts.get(file) or (source.read_text(encoding="utf-8") if source.is_file() else "")
-            if text.count(old) != 1:
-                wrong = wrong or f"an old text occurs in {file} {text.count(old)} times"
-            functions.add(function_at(crate, file, text, text.find(old)) if file.startswith("src/") else None)
-            # a further pair applies to what the earlier ones made
-            texts[file] = text.replace(old, new)
-            pairs.append((file, old, new))
-            old = None
+    pairs, functions, texts, wrong = pairs_of(path.read_text(encoding="utf-8")), set(), {}, None
+    for file, old, new in pairs:
+        source = ROOT / "crates" / crate / file
+        text = texts.get(file) or (source.read_text(encoding="utf-8") if source.is_file() else "")
+        if text.count(old) != 1:
+            wrong = wrong or f"an old text occurs in {file} {text.count(old)} times"
+        if old == new:
+            wrong = wrong or "it changes nothing"
+        functions.add(function_at(crate, file, text, text.find(old)) if file.startswith("src/") else None)
+        # a further pair applies to what the earlier ones made
+        texts[file] = text.replace(old, new)
     return Edit(crate, path.stem, pairs, None if None in functions else frozenset(functions)), wrong if pairs else "it has no pair"
 
 

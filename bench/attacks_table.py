@@ -13,7 +13,7 @@ import difflib
 import re
 import sys
 
-from repository import ROOT, crates_below
+from repository import ROOT, crates_below, pairs_of
 
 PAGE = ROOT / "docs" / "ATTACKS.md"
 TABLE = re.compile(r"(<!-- table: bench/attacks_table\.py(?: (\w+))? -->\n)(.*?)(<!-- end of table -->\n)", re.DOTALL)
@@ -46,19 +46,6 @@ GHOST = re.compile("[→≡λ×∷≤⊥↔⊎ℤℕ]")
 STATEMENTS, NUMBERS, OPERATORS, NAMES, ADDED, LEFT_OUT, REPLACED = KINDS = (
     "statements", "numbers, texts", "operators", "names", "added", "left out", "replaced")
 COLUMNS = ("Crate", "Must fail", "Planted", *KINDS)
-
-
-def pairs_of(text):
-    """The (file, old, new) of an edit; a `new:` without a text drops the old one."""
-    file = old = None
-    for line in text.split("\n"):
-        if line.startswith("file: "):
-            file = line[len("file: ") :].strip()
-        elif line.startswith("old: "):
-            old = line[len("old: ") :]
-        elif line.startswith("new:") and old is not None:
-            yield file, old, line[len("new:") :].removeprefix(" ")
-            old = None
 
 
 def is_statement(crate, file, old):

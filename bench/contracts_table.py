@@ -45,7 +45,7 @@ CALLS = {
                       "base_days_repeat", "rule_days_repeat", "shifts_are_multiples", "common_multiple", "form_days_repeat"],
         "cal_zones": ["zone_name", "Zone::read", "Zone::single", "Zone::pair", "one_zone", "Zone::offset", "Zone::offsets", "Zone::first_onsets", "Zone::resolve", "Zone::last_day",
                       "Zone::regular_from", "Zone::period_days", "zones_repeat", "RoomZone::*", "Clock::*"],
-        "cal_events": ["read_meeting", "Method::*", "judge_time", "When::instant", "is_in_event_dates", "one_event", "one_zoned_time", "EventComponent::singles", "EventComponent::series",
+        "cal_events": ["read_meeting", "Method::*", "Property::*", "Presence::*", "judge_time", "When::instant", "is_in_event_dates", "one_event", "one_zoned_time", "EventComponent::singles", "EventComponent::series",
                        "EventComponent::instances_in", "Time::instant_in", "Event::read", "Event::instances", "Event::first_overlap", "one_meeting", "one_instance",
                        "all_instances", "Calendar::*", "one_calendar_text", "singles_are_confirmed", "series_and_singles_divide", "zone_named_keeps", "Series::*", "all_starts",
                        "series_are_said", "calendar_series_are_said", "instances_last"],

@@ -35,6 +35,22 @@ def copied(crate, below, room, kept="out"):
     return Path(room) / "crates" / crate
 
 
+def pairs_of(text):
+    """The (file, old, new) of an edit. A text goes on with the lines below it; a `new:` without a text drops the old one."""
+    pairs, file, texts = [], None, None
+    for line in text.rstrip("\n").split("\n"):
+        if line.startswith("file: "):
+            file, texts = line[len("file: ") :].strip(), None
+        elif line.startswith("old: "):
+            texts = [[line[len("old: ") :]], []]
+            pairs.append((file, *texts))
+        elif line.startswith("new:") and texts and not texts[1]:
+            texts[1].append(line[len("new:") :].removeprefix(" "))
+        elif texts:
+            texts[1 if texts[1] else 0].append(line)
+    return [(file, "\n".join(old), "\n".join(new)) for file, old, new in pairs if new]
+
+
 def put_between(page, begin, end, made, only_compares):
     """Puts a generated table between its two marker comments, or only compares it; whether the page had that very table."""
     head, first, rest = page.read_text(encoding="utf-8").partition(begin)

@@ -18,7 +18,7 @@ pub fn free(alloc: Global, calendar: &Calendar, span: Span) -> Result<Vec<Span>,
     free_by(alloc, &instances, span)
 }
 
-/// The same of a calendar of which these instances are in the span, as `agenda` gives them. Fails only when out of memory.
+/// The spans of a span in which none of these instances is: those that `agenda` gives of a calendar. Fails only when out of memory.
 pub fn free_by(
     alloc: Global,
     instances: &[Instance<'_>],

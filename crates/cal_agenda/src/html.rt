@@ -105,7 +105,7 @@ pub(crate) fn shown_at(zone: &Zone, instant: i64) -> [u8; 5]
     clock_octets(second)
 }
 
-/// The same where something ends; the end of the day is 24:00.
+/// What the clocks of a zone show at the instant at which something ends, in hours and minutes; the end of the day is 24:00.
 pub(crate) fn end_shown_at(zone: &Zone, end_of_day: i64, instant: i64) -> [u8; 5]
     requires { IsWellWithin instant }
     ensures { IsEndText (zone_of zone.now) end_of_day instant result }

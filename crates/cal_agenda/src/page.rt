@@ -82,7 +82,7 @@ fn page_clocks(zone: Option<Zone>) -> Zone
     }
 }
 
-/// The same in words.
+/// Whose clocks the days and times go by, in words.
 fn clock_words(zone: Option<Zone>) -> &'static str
     ensures { result.now ≡ clock_words (option_map zone_of zone) }
 {

@@ -40,7 +40,7 @@ fn begins_by(run: &Run, instant: i64) -> bool
     run.begins_at(latest)
 }
 
-/// The same runs up to an instant, where those whose rule would set nothing more up to it go on after it.
+/// Runs cut at an instant, where those whose rule would set nothing more up to it go on after it.
 pub(crate) fn going_on(alloc: Global, runs: &[Run], to: i64) -> Result<Vec<Run>, AllocError>
     ensures { IfOk result (λ others. AreSameUpTo to (runs_in runs.now) (runs_in others.items)) }
 {
@@ -54,7 +54,7 @@ pub(crate) fn going_on(alloc: Global, runs: &[Run], to: i64) -> Result<Vec<Run>,
     Ok(others)
 }
 
-/// The same runs up to an instant, where none has an onset after it. It isn't so where the onsets are counted.
+/// Runs cut at an instant: none has an onset after it, unless its onsets are counted.
 pub(crate) fn ending(alloc: Global, runs: &[Run], to: i64) -> Result<Vec<Run>, AllocError>
     ensures { IfOk result (λ others. AreSameUpTo to (runs_in runs.now) (runs_in others.items)) }
 {
@@ -72,7 +72,7 @@ impl Run {
     ghost use Rattle.cal_doors.specs.Runs.{run_of};
     ghost use Rattle.cal_doors.specs.Between.{IsSameRunUpTo};
 
-    /// The same up to an instant, and without an end where its rule sets nothing more up to it.
+    /// The run up to an instant, and without an end where its rule sets nothing more up to it.
     fn going_on(&self, to: i64) -> Run
         ensures { IsSameRunUpTo to (run_of self.now) (run_of result) }
     {
@@ -86,7 +86,7 @@ impl Run {
         endless
     }
 
-    /// The same up to an instant, after which it has none where they aren't counted.
+    /// The run up to an instant, after which it has no onset, unless its onsets are counted.
     fn ending(&self, to: i64) -> Run
         ensures { IsSameRunUpTo to (run_of self.now) (run_of result) }
     {
@@ -96,7 +96,7 @@ impl Run {
     }
 }
 
-/// The same end up to an instant, and no later one where onsets aren't counted.
+/// An end, moved up to an instant where it is later, unless it counts onsets.
 fn ending_by(end: End, to: i64) -> End
     ensures { IsSameEndUpTo to (end_of end) (end_of result) }
 {

@@ -175,7 +175,7 @@ fn have_same_zones(
     true
 }
 
-/// The same for a line, if it is one of times.
+/// Whether a line names one zone in both, if it is one of times.
 fn has_same_zone(line: Line<'_>, one: &NamedZones<'_, '_>, other: &NamedZones<'_, '_>) -> bool
     requires one { AreNamed one.now }
     requires other { AreNamed other.now }

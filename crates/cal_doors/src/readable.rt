@@ -49,7 +49,7 @@ pub fn adapt(
     adapt_object(alloc, octets, &object, &uses, listed)
 }
 
-/// The same of octets that are an object, whose uses these are.
+/// An object made readable, where these are the uses that its lines make of zones.
 fn adapt_object(
     alloc: Global,
     octets: &[u8],
@@ -92,7 +92,7 @@ fn changes_by(
     changes_listed(alloc, uses, zones, object)
 }
 
-/// The same with a list.
+/// The zones that have to take the place of the VTIMEZONEs of an object, where those that it lacks are looked up in a list.
 fn changes_listed(
     alloc: Global,
     uses: &Uses,

@@ -31,7 +31,7 @@ pub fn returned(
     }
 }
 
-/// The same, where a room reads the object that octets are in the place of the original.
+/// The answer in the words of the original, where a room reads the object that octets are in the place of the original.
 fn returned_by(
     alloc: Global,
     original: &[u8],

@@ -170,7 +170,7 @@ impl Run {
         self.is_over(only)
     }
 
-    /// The same, and those of its rule that come after its end.
+    /// The run with the onsets of its rule that come after its end.
     pub(crate) fn endless(&self) -> Run
         ensures observance { result.observance ≡ self.now.observance }
         ensures end { result.end ≡ Never }

@@ -178,7 +178,7 @@ fn have_zones(
     true
 }
 
-/// The same for some lines.
+/// Whether the zones that some lines name are there.
 fn has_zones(
     lines: OwnLines<'_>,
     zones: &NamedZones<'_, '_>,
@@ -199,7 +199,7 @@ fn has_zones(
     true
 }
 
-/// The same for a line, if it is one of times.
+/// Whether the zone that a line names is there, if it is one of times.
 fn has_zone(
     line: Line<'_>,
     zones: &NamedZones<'_, '_>,

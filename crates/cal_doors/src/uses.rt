@@ -176,7 +176,7 @@ fn earliest(line: Line<'_>) -> i64
     first
 }
 
-/// The same for the time that a text is; the greatest number where it is none.
+/// No local time is earlier, on whatever clock, that is shown at the time that a text is; the greatest number where it is none.
 fn earliest_of(text: &str) -> i64
     ensures local { (local : ℤ) → SpellsOnClock text.now local → (result +ℤ pos 86_399) ≤ℤ local }
     ensures utc { (instant : ℤ) → SpellsStamp text.now instant → result ≤ℤ instant }

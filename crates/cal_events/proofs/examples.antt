@@ -1,4 +1,5 @@
 pub mod EventExamples
 pub mod ExpandedExample
 pub mod SaidRules
+pub mod SeriesExamples
 pub mod Worked

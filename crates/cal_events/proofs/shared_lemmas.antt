@@ -7,7 +7,6 @@ pub mod Zips
 pub mod ObjectFaults
 pub mod OneInstance
 pub mod MeetingLemmas
-pub mod MethodLemmas
 pub mod ZonedLemmas
 pub mod InOneOrder
 pub mod DraftKeys

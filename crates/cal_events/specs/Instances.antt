@@ -1,5 +1,5 @@
 -- The instances of an event that are left to come, and how the first of them is found.
-use Rattle.std.specs.Prelude.{◌≡◌, ◌⊎◌, ℕ, ◌<◌, true, Contains, List, Option, Some, None, MatchOption, map, int_lt, if◌then◌else◌, ℤ, ◌≤ℤ◌, ◌<ℤ◌}
+use Rattle.std.specs.Prelude.{◌≡◌, ◌⊎◌, ℕ, ◌<◌, true, Contains, List, [], Option, Some, None, MatchOption, int_lt, if◌then◌else◌, ℤ, ◌≤ℤ◌, ◌<ℤ◌}
 use Rattle.profile.specs.checker.Instances.{horizon}
 use Rattle.profile.specs.series.Days.{day_index}
 use Rattle.profile.specs.series.Rules.{Rule, is_rule_day}
@@ -11,8 +11,9 @@ use Rattle.profile.specs.events.EventComponents as profile
 use Rattle.profile.specs.events.Starts.{IsReplaced, IsStart}
 use Rattle.cal_zones.specs.Kinds.{zone_of}
 use Rattle.cal_zones.specs.declared.clock.Clock.{Clock}
-use Rattle.cal_events.specs.Component.{component_of}
+use Rattle.cal_events.specs.Recurrence.{recurring}
 use Rattle.cal_events.specs.declared.component.EventComponent.{EventComponent}
+use Rattle.cal_events.specs.declared.recurrence.Recurrence.{Recurrence}
 use Rattle.cal_events.specs.declared.rule_days.RuleDays.{RuleDays}
 use Rattle.cal_events.specs.RuleDays.{AreDaysOf}
 use Rattle.cal_events.specs.declared.instances.Bound.{Bound}
@@ -96,27 +97,27 @@ IsSooner (Some x) (Some y) r = ((r ≡ Some x) × (IsBefore y x → ⊥)) ⊎ ((
 
 -- ---- both
 
--- on no other day of the master's rule is a start to come
-abbrev pub HasPassed : Option EventComponent → List EventComponent → Bound → RuleDays → Type 0
-HasPassed master overrides bound days = (c : EventComponent) → master ≡ Some c → AreWalked (component_of c) (map component_of overrides) bound days
+-- on no other day of the rule is a start to come
+abbrev pub HasPassed : Option Recurrence → Bound → RuleDays → Type 0
+HasPassed recurrence bound days = (r : Recurrence) → recurrence ≡ Some r → AreWalked (recurring r) [] bound days
 
 -- what a local time means on the clocks of DTSTART's zone is what it means on these
 abbrev pub IsOfClock : profile.EventComponent → Clock → Type 0
 IsOfClock event clock = (local t u : ℤ) → Means (zone_of clock.zone) local t → Means (clock_of event.times.zone) local u → u ≡ t
 
-abbrev pub HasClock : Option EventComponent → Clock → Type 0
-HasClock master clock = (c : EventComponent) → master ≡ Some c → IsOfClock (component_of c) clock
+abbrev pub HasClock : Option Recurrence → Clock → Type 0
+HasClock recurrence clock = (r : Recurrence) → recurrence ≡ Some r → IsOfClock (recurring r) clock
 
 -- the place of the instance at a start
 abbrev pub own_place : ℤ → InstancePlace
 own_place start = record { start = start; slot = start }
 
--- at that place is a start of the master, or an override
-abbrev pub IsHeldAt : Option EventComponent → List EventComponent → InstancePlace → Type 0
-IsHeldAt master overrides place =
-    ((c : EventComponent) × (master ≡ Some c) × (place ≡ own_place place.start) × IsStart (component_of c) (map component_of overrides) place.start)
+-- at that place is a start, or an override
+abbrev pub IsHeldAt : Option Recurrence → List EventComponent → InstancePlace → Type 0
+IsHeldAt recurrence overrides place =
+    ((r : Recurrence) × (recurrence ≡ Some r) × (place ≡ own_place place.start) × IsStart (recurring r) [] place.start)
     ⊎ ((o : EventComponent) × Contains overrides o × IsAtPlace o place)
 
 -- and it is to come
-abbrev pub IsHeld : Option EventComponent → List EventComponent → Bound → InstancePlace → Type 0
-IsHeld master overrides bound place = IsHeldAt master overrides place × IsAfter bound place.start place.slot
+abbrev pub IsHeld : Option Recurrence → List EventComponent → Bound → InstancePlace → Type 0
+IsHeld recurrence overrides bound place = IsHeldAt recurrence overrides place × IsAfter bound place.start place.slot

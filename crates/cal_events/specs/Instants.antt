@@ -1,4 +1,4 @@
--- The instants that an event keeps in order.
+-- The instants that a recurrence keeps in order.
 use Rattle.std.specs.Prelude.{◌≡◌, ◌↔◌, true, Contains, List, Option, MatchOption, ℤ, ◌≤ℤ◌}
 use Rattle.std.specs.List.{list_any}
 use Rattle.std.specs.Ordering.{int_eq}
@@ -16,15 +16,18 @@ IsFirstFrom instants from found =
 abbrev pub HasInstant : List ℤ → ℤ → Type 0
 HasInstant instants t = list_any (λ own. int_eq own t) instants ≡ true
 
--- they are those that EXDATE names, and those that an override replaces
-abbrev pub Hides : EventComponent → List EventComponent → List ℤ → Type 0
-Hides master overrides hidden = (t : ℤ) → (Contains hidden t → ⊥) ↔ ((Contains master.exceptions t → ⊥) × (IsReplaced (Contains overrides) t → ⊥))
+-- an instant is a start where it is given: it is in the dates that an event may name, and none of these excepts it
+abbrev pub IsAdmitted : List ℤ → ℤ → Type 0
+IsAdmitted exceptions t = IsInEventDates t × (Contains exceptions t → ⊥)
 
--- they are those of the instants that are starts
+-- each of them is one
+abbrev pub AreStarts : List ℤ → List ℤ → Type 0
+AreStarts starts exceptions = (t : ℤ) → HasInstant starts t → IsAdmitted exceptions t
+
+-- they are those of the instants that are
 abbrev pub AreStartsOf : List ℤ → List ℤ → List ℤ → Type 0
-AreStartsOf instants hidden starts = (t : ℤ) → Contains starts t ↔ (Contains instants t × (IsInEventDates t × (Contains hidden t → ⊥)))
+AreStartsOf instants exceptions starts = (t : ℤ) → Contains starts t ↔ (Contains instants t × IsAdmitted exceptions t)
 
--- they are the starts that RDATE gives
-abbrev pub AddsStarts : EventComponent → List EventComponent → List ℤ → Type 0
-AddsStarts master overrides added =
-    (t : ℤ) → HasInstant added t ↔ (HasInstant master.additions t × IsInEventDates t × (Contains master.exceptions t → ⊥) × (IsReplaced (Contains overrides) t → ⊥))
+-- overrides replace none but these instants
+abbrev pub AreReplacedIn : List EventComponent → List ℤ → Type 0
+AreReplacedIn overrides exceptions = (t : ℤ) → IsReplaced (Contains overrides) t → HasInstant exceptions t

@@ -5,6 +5,7 @@ pub mod Names
 pub mod Clashes
 pub mod Sweep
 pub mod Component
+pub mod Property
 pub mod Zones
 pub mod Clocks
 pub mod Zoned
@@ -25,6 +26,7 @@ pub mod Times
 pub mod Forms
 pub mod Said
 pub mod Past
+pub mod Recurrence
 pub mod SingleStarts
 pub mod Draft
 pub mod Ruled

@@ -7,7 +7,7 @@ use Rattle.profile.specs.events.Events.{is_master}
 use Rattle.cal_events.specs.Draft.{IsSaid, override_keys}
 use Rattle.cal_events.specs.Entries.{Name}
 use Rattle.cal_events.specs.Component.{component_of}
-use Rattle.cal_events.specs.Ruled.{IsByItsRule}
+use Rattle.cal_events.specs.Ruled.{IsRuledBeside}
 use Rattle.cal_events.specs.Series.{series_said}
 use Rattle.cal_events.specs.declared.component.EventComponent.{EventComponent}
 use Rattle.cal_events.specs.declared.series.Series.{Series}
@@ -23,7 +23,7 @@ AreMasters masters = All IsRuler masters
 
 -- these are the series of those, where overrides replace the instances of these keys
 abbrev pub AreSeriesOf : List Key → List EventComponent → List Series → Type 0
-AreSeriesOf keys masters series = AllZip (λ m s. IsByItsRule keys (component_of m) (series_said s)) masters series
+AreSeriesOf keys masters series = AllZip (λ m s. IsRuledBeside keys (component_of m) (series_said s)) masters series
 
 -- where overrides replace these instances, in some order
 pub record AreRuled (entries : List Name) (masters : List EventComponent) (series : List Series) : Type 0 where

@@ -1,12 +1,12 @@
 -- What a series represents.
-use Rattle.std.specs.Prelude.{◌≡◌, ◌↔◌, ◌≤ℤ◌, ◌<ℤ◌, ℤ, true, Contains, List, [], Some}
+use Rattle.std.specs.Prelude.{◌≡◌, ◌↔◌, ◌≤ℤ◌, ◌<ℤ◌, ℤ, true, Contains, List, Some}
 use Rattle.profile.specs.checker.Instances.{Instance, horizon}
 use Rattle.profile.specs.events.EventComponents.{EventComponent as Said}
 use Rattle.profile.specs.events.Events.{Event as SaidEvent}
 use Rattle.profile.specs.events.Properties.{first_second}
 use Rattle.profile.specs.events.Starts.{IsInstance}
-use Rattle.profile.specs.events.Confirmed.{alone, has_series, IsOfSeries}
-use Rattle.cal_events.specs.Ruled.{ruled_without}
+use Rattle.profile.specs.events.Confirmed.{alone, has_series, IsByItsRule, IsOfSeries}
+use Rattle.cal_events.specs.Ruled.{IsLeftOf}
 use Rattle.cal_events.specs.Event.{said_meeting}
 use Rattle.cal_events.specs.declared.series.Series.{Series}
 
@@ -28,9 +28,9 @@ pub record AreKnownByStart (series : SaidEvent) : Type 0 where
 pub record IsSeriesOf (event : Said) (series : SaidEvent) : Type 0 where
   pub has : has_series event ≡ true
   pub instances : (b : Instance) → IsInstance series b ↔ (IsInstance (alone event) b × IsOfSeries event b)
-  pub master : series ≡ record { master = Some (ruled_without event []); overrides = [] }
+  pub ruled : IsByItsRule event (Contains event.exceptions) series
 
 -- what is left of a series without its instances at these starts
 pub record IsSeriesWithout (series : SaidEvent) (starts : List ℤ) (left : SaidEvent) : Type 0 where
   pub instances : (b : Instance) → IsInstance left b ↔ (IsInstance series b × (Contains starts b.start → ⊥))
-  pub master : (own : Said) → IsMasterOf series own → left ≡ record { master = Some (ruled_without own starts); overrides = [] }
+  pub ruled : (own : Said) → IsMasterOf series own → IsLeftOf own (Contains starts) left

@@ -19,12 +19,13 @@ use crate::component_values::{
 };
 use crate::event_rule::SaidRule;
 use crate::event_times::{EventTimes, SaidTimes, seconds_of};
-use crate::method::{Method, adds_instances, may_lack_start, names_by_fixed};
+use crate::method::Method;
 use crate::occurrences::{
     Listing, SaidInstant, SaidInstants, WrittenTimes, instants_of, judge_recurrence,
     refuse_recurring_instance, refuse_unfixed,
 };
 use crate::properties::has;
+use crate::property::{Property, bars_recurrence, names_by_fixed};
 use crate::when::one_zoned_time;
 use crate::zones::ZonesOfObject;
 use cal_rules::{Rule, one_rule};
@@ -110,8 +111,8 @@ impl EventComponent {
     ghost use Rattle.cal_events.specs.Component.{component_of, length_of, method_read, participation_of};
 
     /// Reads the properties of a VEVENT of an object of this METHOD, or of one whose METHOD is ignored; its times may name these zones.
-    /// Refused, in this order: of UID, ORGANIZER, DTSTAMP, SEQUENCE and STATUS 10 and 14 to 16 for a value, 61 and 63 for one that
-    /// is missing or occurs twice; as by `SaidInstant::read_recurrence` for RECURRENCE-ID; as by `SaidTimes::read` for DTSTART,
+    /// Refused, in this order: of UID, ORGANIZER, DTSTAMP, SEQUENCE and STATUS 10 and 14 to 16 for a value, 61 and 63 as by `Property::presence`
+    /// for one that is missing or occurs twice; as by `SaidInstant::read_recurrence` for RECURRENCE-ID; as by `SaidTimes::read` for DTSTART,
     /// DTEND and DURATION; 61 and 30 to 33 for RRULE; as by `SaidInstants::read` for RDATE and EXDATE; 15 for an ATTENDEE;
     /// 57 for a RECURRENCE-ID that isn't fixed, in what is stored or answered; as by `SaidTimes::judge` for the times together;
     /// 52 for a RECURRENCE-ID or an RDATE outside of the dates that an event may name; 67 for RRULE or RDATE in a single instance;
@@ -126,14 +127,14 @@ impl EventComponent {
         ensures says { IfOk result (λ event. SaysEventComponent (object_of zones.now) (method_read method) properties.now (component_of event)) }
         ensures fault { IfErr result (RefusesBy (EventComponentFault (object_of zones.now) (method_read method) properties.now)) }
     {
-        let uid = read_uid(alloc, properties)?;
+        let uid = read_uid(alloc, properties, method)?;
         let organiser = read_organiser(alloc, properties, method)?;
         let stamp = read_stamp(properties, method)?;
-        let sequence = read_sequence(properties)?;
-        let cancelled = read_cancelled(properties)?;
-        let said_recurrence = SaidInstant::read_recurrence(zones, properties)?;
-        let said = SaidTimes::read(zones, properties, may_lack_start(method))?;
-        let said_rule = SaidRule::read(alloc, properties)?;
+        let sequence = read_sequence(properties, method)?;
+        let cancelled = read_cancelled(properties, method)?;
+        let said_recurrence = SaidInstant::read_recurrence(zones, properties, method)?;
+        let said = SaidTimes::read(zones, properties, method)?;
+        let said_rule = SaidRule::read(alloc, properties, method)?;
         let said_additions = SaidInstants::read(alloc, zones, properties, Listing::Additions)?;
         let said_exceptions = SaidInstants::read(alloc, zones, properties, Listing::Exceptions)?;
         let attendees = read_attendees(alloc, properties)?;
@@ -145,8 +146,8 @@ impl EventComponent {
             additions: said_additions.judge()?,
             exceptions: said_exceptions.times,
         };
-        refuse_recurring_instance(properties, adds_instances(method))?;
-        let rule = said_rule.judge(&times, has(properties, "DTSTART"))?;
+        refuse_recurring_instance(properties, bars_recurrence(method))?;
+        let rule = said_rule.judge(&times, has(properties, Property::Dtstart))?;
         let additions = instants_of(alloc, &written.additions)?;
         let exceptions = instants_of(alloc, &written.exceptions)?;
         Ok(EventComponent {

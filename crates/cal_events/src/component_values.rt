@@ -1,31 +1,38 @@
 //! The values of a VEVENT's properties, each read by itself: UID, ORGANIZER, DTSTAMP, SEQUENCE, STATUS, SUMMARY and ATTENDEE.
-ghost use Rattle.std.specs.Prelude.{ℕ, List, ◌≡◌, Some, map, codes, option_map, is_some, true, IfOk, IfErr, IsTrue, Option};
+ghost use Rattle.std.specs.Prelude.{ℕ, List, ◌≡◌, Some, map, codes, option_map, IfOk, IfErr, IsTrue, Option};
 ghost use Rattle.std.specs.List.{AllZip};
 ghost use Rattle.ical_lines.specs.Fault.{RefusesOnly, RefusesBy};
 ghost use Rattle.ical_lines.specs.Text.{line_text};
 ghost use Rattle.ical_values.specs.Octets.{address_octets, text_octets};
 ghost use Rattle.profile.specs.text.Trees.{Tree};
 ghost use Rattle.profile.specs.faults.Faults.{is_event_fault};
-ghost use Rattle.profile.specs.events.EventComponents.{Method as SaidMethod, is_by_server, summary_of, SaysSequence, IsAttendee, EventComponentFault};
+ghost use Rattle.profile.specs.events.EventComponents.{Method as SaidMethod, DTSTAMP, ORGANIZER, UID, is_by_server, summary_of, IsAttendee, EventComponentFault, SaysAs, SaysSequence};
 ghost use Rattle.profile.specs.events.Occurrences.{SaysStatus};
-ghost use Rattle.profile.specs.events.Properties.{OccursMoreThanOnce, lines_named, Says, IsUidLine, IsAddressLine, IsStampLine, IsNoAddress};
+ghost use Rattle.profile.specs.events.Properties.{lines_named, IsUidLine, IsAddressLine, IsStampLine, IsNoAddress};
 ghost use Rattle.cal_events.specs.Component.{method_read, attendee_of};
 
 use crate::component::{Attendee, PartStat};
 use crate::method::Method;
-use crate::properties::{first_named, optional, required};
+use crate::properties::{first_named, line_of};
+use crate::property::Property;
 use ical_lines::{Fault, Line, Refusal};
 use ical_tree::Properties;
 use ical_values::{Address, Sequence, Stamp, Text};
 use std::alloc::{AllocError, Global};
 
-pub(crate) fn read_uid(alloc: Global, properties: &Properties<'_>) -> Result<Text, Fault>
-    ensures reads { IfOk result (λ uid. Says (codes "UID") true IsUidLine properties.now (Some (text_octets uid))) }
+pub(crate) fn read_uid(
+    alloc: Global,
+    properties: &Properties<'_>,
+    method: Option<Method>,
+) -> Result<Text, Fault>
+    ensures reads { IfOk result (λ uid. SaysAs (method_read method) UID IsUidLine properties.now (Some (text_octets uid))) }
     ensures refuses { IfErr result (RefusesOnly is_event_fault) }
-    ensures fault { (object : Tree) (method : Option SaidMethod) → IfErr result (RefusesBy (EventComponentFault object method properties.now)) }
+    ensures fault { (object : Tree) → IfErr result (RefusesBy (EventComponentFault object (method_read method) properties.now)) }
 {
-    let line = required(properties, "UID")?;
-    Text::read_uid(alloc, line.value())
+    match line_of(properties, Property::Uid, method)? {
+        Some(line) => Text::read_uid(alloc, line.value()),
+        None => unreachable!(),
+    }
 }
 
 pub(crate) fn read_organiser(
@@ -33,13 +40,12 @@ pub(crate) fn read_organiser(
     properties: &Properties<'_>,
     method: Option<Method>,
 ) -> Result<Option<Address>, Fault>
-    ensures reads { IfOk result (λ found. Says (codes "ORGANIZER") (is_some (method_read method)) IsAddressLine properties.now (option_map address_octets found)) }
+    ensures reads { IfOk result (λ found. SaysAs (method_read method) ORGANIZER IsAddressLine properties.now (option_map address_octets found)) }
     ensures refuses { IfErr result (RefusesOnly is_event_fault) }
     ensures fault { (object : Tree) → IfErr result (RefusesBy (EventComponentFault object (method_read method) properties.now)) }
 {
-    match optional(properties, "ORGANIZER")? {
+    match line_of(properties, Property::Organizer, method)? {
         Some(line) => Ok(Some(Address::read(alloc, line.value())?)),
-        None if method.is_some() => Err(Fault::Refused(Refusal::NO_ORGANIZER)),
         None => Ok(None),
     }
 }
@@ -48,36 +54,39 @@ pub(crate) fn read_stamp(
     properties: &Properties<'_>,
     method: Option<Method>,
 ) -> Result<Option<Stamp>, Refusal>
-    ensures reads { IfOk result (λ found. Says (codes "DTSTAMP") (is_some (method_read method)) IsStampLine properties.now found) }
+    ensures reads { IfOk result (λ found. SaysAs (method_read method) DTSTAMP IsStampLine properties.now found) }
     ensures refuses { IfErr result (λ e. IsTrue (is_event_fault e.number)) }
     ensures fault { (object : Tree) → IfErr result (λ e. EventComponentFault object (method_read method) properties.now e.number) }
 {
-    match optional(properties, "DTSTAMP")? {
+    match line_of(properties, Property::Dtstamp, method)? {
         Some(line) => Ok(Some(Stamp::read(line.value())?)),
-        None if method.is_some() => Err(Refusal::BAD_PROPERTY),
         None => Ok(None),
     }
 }
 
-pub(crate) fn read_sequence(properties: &Properties<'_>) -> Result<Sequence, Refusal>
+pub(crate) fn read_sequence(
+    properties: &Properties<'_>,
+    method: Option<Method>,
+) -> Result<Sequence, Refusal>
     ensures reads { IfOk result (SaysSequence properties.now) }
     ensures refuses { IfErr result (λ e. IsTrue (is_event_fault e.number)) }
-    ensures fault { (object : Tree) (method : Option SaidMethod) → IfErr result (λ e. EventComponentFault object method properties.now e.number) }
+    ensures fault { (object : Tree) → IfErr result (λ e. EventComponentFault object (method_read method) properties.now e.number) }
 {
-    match optional(properties, "SEQUENCE")? {
+    match line_of(properties, Property::Sequence, method)? {
         Some(line) => Sequence::read(line.value()),
         None => Ok(Sequence::zero()),
     }
 }
 
 /// Whether STATUS is CANCELLED, caseless.
-/// Refused: 61 where it occurs twice.
-pub(crate) fn read_cancelled(properties: &Properties<'_>) -> Result<bool, Refusal>
+pub(crate) fn read_cancelled(
+    properties: &Properties<'_>,
+    method: Option<Method>,
+) -> Result<bool, Refusal>
     ensures reads { IfOk result (SaysStatus properties.now) }
-    ensures refuses { IfErr result (λ e. e.number ≡ 61) }
-    ensures twice { IfErr result (λ _. OccursMoreThanOnce (codes "STATUS") properties.now) }
+    ensures fault { (object : Tree) → IfErr result (λ e. EventComponentFault object (method_read method) properties.now e.number) }
 {
-    match optional(properties, "STATUS")? {
+    match line_of(properties, Property::Status, method)? {
         Some(line) => Ok(line.value().eq_ignore_ascii_case("CANCELLED")),
         None => Ok(false),
     }
@@ -87,7 +96,7 @@ pub(crate) fn read_cancelled(properties: &Properties<'_>) -> Result<bool, Refusa
 pub(crate) fn read_summary(alloc: Global, properties: &Properties<'_>) -> Result<Text, AllocError>
     ensures { IfOk result (λ text. text_octets text ≡ summary_of properties.now) }
 {
-    match first_named(properties, "SUMMARY") {
+    match first_named(properties, Property::Summary) {
         Some(line) => Text::read(alloc, line.value()),
         None => Text::of(alloc, ""),
     }
@@ -103,7 +112,7 @@ pub(crate) fn read_attendees(
 {
     let mut attendees = Vec::new(alloc);
     for line in properties.lines() {
-        if line.is_named("ATTENDEE") {
+        if Property::Attendee.names(*line) {
             attendees.push(read_attendee(alloc, *line)?)?;
         }
     }

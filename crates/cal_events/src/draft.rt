@@ -166,7 +166,6 @@ fn series_of(
 ) -> Result<Vec<Series>, AllocError>
     requires masters { AreMasters masters.items }
     requires sorted { AreInOrder overrides.now }
-    requires differ { AllPairs ◌≢◌ (map key_of overrides.now) }
     ensures { IfOk result (λ series. AreSeriesOf (map key_of overrides.now) masters.items series.items) }
 {
     let mut series = Vec::new(alloc);

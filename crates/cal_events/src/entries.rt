@@ -1,6 +1,6 @@
 //! The VEVENTs of a calendar: whose they are, and which instances they are for.
 
-ghost use Rattle.std.specs.Prelude.{◌≡◌, ◌++◌, ◌∷◌, ◌<◌, ◌-◌, ℕ, List, [], length, map, unwrap_or, IsTrue, IfOk, OnOk};
+ghost use Rattle.std.specs.Prelude.{◌≡◌, ◌++◌, ◌∷◌, ◌<◌, ◌-◌, ℕ, List, [], length, map, option_map, unwrap_or, IsTrue, IfOk, OnOk};
 ghost use Rattle.ical_values.specs.Octets.{address_octets};
 ghost use Rattle.cal_events.specs.Calendar.{key_of, key_in, owned_key_of};
 ghost use Rattle.cal_events.specs.Component.{component_of};
@@ -93,7 +93,7 @@ impl Entries {
         }
     }
 
-    /// The same, owned.
+    /// The key of the meeting's instance at a slot, with texts of its own.
     pub(crate) fn owned_key_at(&self, place: usize, slot: i64) -> Result<OwnedKey, AllocError>
         requires { place < length self.now }
         ensures { IfOk result (λ key. owned_key_of key ≡ key_in (meeting_at self.now place) slot) }
@@ -128,7 +128,7 @@ fn place_of(
     if is_last(organisers, event.organiser_text()) {
         return Ok(count - 1);
     }
-    organisers.push(organiser_of(alloc, event)?)?;
+    organisers.push(address_of(alloc, &event.organiser)?)?;
     Ok(count)
 }
 
@@ -142,11 +142,11 @@ fn is_last(addresses: &[Address], text: &str) -> bool
     }
 }
 
-/// The address of an event's organiser; the empty one where ORGANIZER is missing.
-pub(crate) fn organiser_of(alloc: Global, event: &EventComponent) -> Result<Address, AllocError>
-    ensures { IfOk result (λ address. address_octets address ≡ unwrap_or (component_of event.now).organiser []) }
+/// An organiser's address; the empty one where there is none.
+pub(crate) fn address_of(alloc: Global, organiser: &Option<Address>) -> Result<Address, AllocError>
+    ensures { IfOk result (λ address. address_octets address ≡ unwrap_or (option_map address_octets organiser.now) []) }
 {
-    match &event.organiser {
+    match organiser {
         Some(organiser) => organiser.clone(),
         None => Ok(Address::empty(alloc)),
     }

@@ -1,62 +1,58 @@
-//! An event with its instances: its master and its overrides (RFC 5545 3.8.4.4), read from one object whatever its METHOD.
+//! An event with its instances: when its master takes place, and its overrides (RFC 5545 3.8.4.4), read from one object whatever its METHOD.
 
-ghost use Rattle.std.specs.Prelude.{◌≡◌, ◌≢◌, ◌↔◌, ◌<◌, ◌≤ℤ◌, ◌⊎◌, ◌++◌, ℕ, List, [], Option, Some, None, map, option_map, ℤ, IfOk, IfErr};
-ghost use Rattle.std.specs.Option.{option_to_list};
-ghost use Rattle.std.specs.List.{list_all};
-ghost use Rattle.std.specs.List.Sorted.{IsPermutation};
+ghost use Rattle.std.specs.Prelude.{◌≡◌, ◌↔◌, ◌≤ℤ◌, ℕ, List, [], Option, Some, None, Contains, map, option_map, ℤ, IfOk, IfErr};
 ghost use Rattle.ical_lines.specs.Fault.{RefusesOnly, RefusesBy};
 ghost use Rattle.ical_tree.specs.Tree.{tree_of};
 ghost use Rattle.profile.specs.checker.Instances.{Instance as SaidInstance};
-ghost use Rattle.profile.specs.events.Events.{Event as SaidEvent, is_master, is_override, AreOfOne, SaysEvent, SpellsEvent, EventFault, EventTextFault, is_meeting_fault};
+ghost use Rattle.profile.specs.events.Events.{Event as SaidEvent, SaysEvent, SpellsEvent, EventFault, EventTextFault, is_meeting_fault, components_of, AreOfOne};
 ghost use Rattle.profile.specs.series.Zones as zones;
 ghost use Rattle.profile.specs.series.RoomZones.{IsRoomZone};
 ghost use Rattle.cal_zones.specs.RoomZones.{room_of};
-ghost use Rattle.cal_events.specs.Clocks.{HasGoodClock};
 ghost use Rattle.cal_events.specs.Component.{component_of, meeting_with};
-ghost use Rattle.cal_events.specs.MeetingComponents.{instants_said, IsNotOne, IsInEventDates};
+ghost use Rattle.cal_events.specs.MeetingComponents.{instants_said, IsInEventDates};
 ghost use Rattle.profile.specs.events.Starts.{IsInstance, IsFirstOverlap};
-ghost use Rattle.cal_events.specs.Instants.{Hides, AddsStarts, AreStartsOf};
+ghost use Rattle.cal_events.specs.Instants.{AreReplacedIn};
 ghost use Rattle.cal_events.specs.Places.{ArePlaces};
+ghost use Rattle.cal_events.specs.Recurrence.{AreNamed, recurring_with};
 ghost use Rattle.cal_events.specs.Overlapping.{HaveOneEnd, AreDated};
 ghost use Rattle.cal_events.specs.declared.component.EventComponent.{EventComponent};
+ghost use Rattle.cal_events.specs.declared.recurrence.Recurrence.{Recurrence};
 
 use crate::component::{EventComponent, one_event};
 use crate::instance::Instance;
-use crate::instances::{Instances, is_start};
-use crate::instants::Instants;
+use crate::instances::Instances;
 use crate::meeting_components::MeetingComponents;
 use crate::overlapping::first_overlapping;
 use crate::places::Places;
+use crate::recurrence::{EventName, Recurrence};
 use crate::sweep::Span;
 use cal_zones::RoomZone;
 use ical_lines::{Fault, Limits, Unfolded};
 use ical_tree::{Component, one_tree, read_object};
+use ical_values::Text;
 use std::alloc::{AllocError, Global};
 
 /// An event with its instances.
 #[derive(Drop)]
 pub struct Event {
-    /// The VEVENT without RECURRENCE-ID, None where there is none.
-    pub master: Option<EventComponent>,
-    /// Those with one, each for another instance, in the order of the text.
-    pub overrides: Vec<EventComponent>,
-    /// The instants that EXDATE names, and those that an override replaces.
-    pub(crate) hidden: Instants,
-    /// The starts that RDATE gives.
-    pub(crate) added: Instants,
+    /// Whose it is.
+    pub(crate) name: EventName,
+    /// When it takes place by the VEVENT without RECURRENCE-ID, None where there is none.
+    pub(crate) recurrence: Option<Recurrence>,
+    /// The VEVENTs with one, each for another instance, in the order of the text.
+    pub(crate) overrides: Vec<EventComponent>,
     /// Where the overrides are.
     pub(crate) places: Places,
-    ghost clock: { (component : EventComponent) → master ≡ Some component → HasGoodClock (component_of component) },
-    ghost hides: { (component : EventComponent) → master ≡ Some component → Hides (component_of component) (map component_of overrides.items) hidden },
-    ghost ends: { HaveOneEnd (meeting_with master overrides.items) },
-    ghost dated: { AreDated (meeting_with master overrides.items) },
-    ghost adds: { (component : EventComponent) → master ≡ Some component → AddsStarts (component_of component) (map component_of overrides.items) added },
+    ghost replaced: { (r : Recurrence) → recurrence ≡ Some r → AreReplacedIn (map component_of overrides.items) r.exceptions },
+    ghost ends: { HaveOneEnd (recurring_with name recurrence overrides.items) },
+    ghost dated: { AreDated (recurring_with name recurrence overrides.items) },
     ghost placed: { ArePlaces overrides.items places },
+    ghost named: { AreNamed name overrides.items },
 }
 
 impl Event {
     ghost use Rattle.profile.specs.events.Starts.{IsInstance};
-    ghost use Rattle.cal_events.specs.Event.{said_meeting};
+    ghost use Rattle.cal_events.specs.Event.{said_meeting, AreAlike, TakesPlaceAs};
     ghost use Rattle.cal_events.specs.Left.{IsLeft};
     ghost use Rattle.cal_events.specs.Calendar.{instance_of};
 
@@ -80,7 +76,7 @@ impl Event {
     /// The event that octets spell in a room of this zone: an object of one UID and one ORGANIZER, whose METHOD is ignored.
     /// Refused: 1 to 6 and 20 to 25 for the object, and as by `of_object`.
     pub fn read(alloc: Global, bytes: &[u8], room: &RoomZone) -> Result<Event, Fault>
-        ensures spells { IfOk result (λ event. SpellsEvent (room_of room.now) bytes.now (said_meeting event)) }
+        ensures spells { IfOk result (TakesPlaceAs (SpellsEvent (room_of room.now) bytes.now)) }
         ensures refuses { IfErr result (RefusesOnly is_meeting_fault) }
         ensures fault { IfErr result (RefusesBy (EventTextFault (room_of room.now) bytes.now)) }
     {
@@ -92,56 +88,74 @@ impl Event {
     /// The event of an object that was read, in a room of this zone.
     /// Refused: as by `MeetingComponents::read`.
     pub fn of_object(alloc: Global, object: &Component, room: &RoomZone) -> Result<Event, Fault>
-        ensures says { IfOk result (λ event. SaysEvent (room_of room.now) (tree_of object.now) None (said_meeting event)) }
+        ensures says { IfOk result (TakesPlaceAs (SaysEvent (room_of room.now) (tree_of object.now) None)) }
         ensures refuses { IfErr result (RefusesOnly is_meeting_fault) }
         ensures fault { IfErr result (RefusesBy (EventFault (room_of room.now) (tree_of object.now) None)) }
     {
         // Only for the proof: the words of the room mean its zone.
         room.words_mean();
         let components = MeetingComponents::read(alloc, object, room)?;
-        Ok(components.into_event(alloc)?)
+        Ok(Event::of(alloc, components)?)
     }
 
-    /// The event of a master alone. It fails only when out of memory.
-    pub(crate) fn of_master(alloc: Global, master: EventComponent) -> Result<Event, AllocError>
-        requires clock { HasGoodClock (component_of master) }
-        requires ends { HaveOneEnd (record { master = Some (component_of master); overrides = [] }) }
-        requires dated { AreDated (record { master = Some (component_of master); overrides = [] }) }
-        ensures { IfOk result (λ event. (event.master ≡ Some master) × (event.overrides.items ≡ [])) }
-    {
-        let components = MeetingComponents {
-            master: Some(master),
-            overrides: Vec::new(alloc),
-            instants: Vec::new(alloc),
-        };
-        components.into_event(alloc)
-    }
-}
-
-impl MeetingComponents {
-    /// The event that they are. It fails only when out of memory.
-    fn into_event(self, alloc: Global) -> Result<Event, AllocError>
-        requires said { map Some self.instants.items ≡ instants_said (map component_of self.overrides.items) }
-        requires clock { (component : EventComponent) → self.master ≡ Some component → HasGoodClock (component_of component) }
-        requires ends { HaveOneEnd (meeting_with self.master self.overrides.items) }
-        requires dated { AreDated (meeting_with self.master self.overrides.items) }
-        ensures { IfOk result (λ event. (event.master ≡ self.master) × (event.overrides.items ≡ self.overrides.items)) }
+    /// The event of the VEVENTs of a meeting. It fails only when out of memory.
+    fn of(alloc: Global, components: MeetingComponents) -> Result<Event, AllocError>
+        requires said { map Some components.instants.items ≡ instants_said (map component_of components.overrides.items) }
+        requires one { AreOfOne (components_of (meeting_with components.master components.overrides.items)) }
+        requires ends { HaveOneEnd (meeting_with components.master components.overrides.items) }
+        requires dated { AreDated (meeting_with components.master components.overrides.items) }
+        ensures { IfOk result (λ event. AreAlike (said_meeting event) (meeting_with components.master components.overrides.items)) }
     {
         let MeetingComponents {
             master,
             overrides,
             instants,
-        } = self;
-        let hidden = hidden_of(&master, instants)?;
-        let added = added_of(alloc, &master, &hidden)?;
+        } = components;
         let places = Places::of(alloc, &overrides)?;
-        Ok(Event {
-            master,
-            overrides,
-            hidden,
-            added,
-            places,
-        })
+        match master {
+            Some(master) => {
+                let (name, recurrence) = master.without(alloc, instants)?;
+                Ok(Event {
+                    name,
+                    recurrence: Some(recurrence),
+                    overrides,
+                    places,
+                })
+            }
+            None => Ok(Event {
+                name: first_name(alloc, &overrides)?,
+                recurrence: None,
+                overrides,
+                places,
+            }),
+        }
+    }
+
+    /// The event that recurs so, without overrides.
+    pub(crate) fn recurring(alloc: Global, name: EventName, recurrence: Recurrence) -> Event
+        ensures name { result.name ≡ name }
+        ensures recurrence { result.recurrence ≡ Some recurrence }
+        ensures overrides { result.overrides.items ≡ [] }
+    {
+        Event {
+            name,
+            recurrence: Some(recurrence),
+            overrides: Vec::new(alloc),
+            places: Places::none(alloc),
+        }
+    }
+}
+
+/// The name of the first of these overrides; an empty one where there is none. It fails only when out of memory.
+fn first_name(alloc: Global, overrides: &[EventComponent]) -> Result<EventName, AllocError>
+    ensures { IfOk result (λ name. AreOfOne (map component_of overrides.now) → AreNamed name overrides.now) }
+{
+    match overrides.first() {
+        Some(first) => first.name(),
+        None => Ok(EventName {
+            organiser: None,
+            uid: Text::of(alloc, "")?,
+        }),
     }
 }
 
@@ -164,49 +178,3 @@ pub fn one_instance()
         → IsRoomZone words room → SpellsEvent room octets meeting → IsInstance meeting a
         → IsInEventDates a.key.slot × IsInEventDates a.start × (a.start ≤ℤ a.end) }
 {}
-
-/// The instants that EXDATE names and these, which overrides replace.
-fn hidden_of(master: &Option<EventComponent>, instants: Vec<i64>) -> Result<Instants, AllocError>
-    ensures { IfOk result (λ hidden. (c : EventComponent) → master.now ≡ Some c → IsPermutation (instants.items ++ c.exceptions.items) hidden) }
-{
-    match master {
-        Some(master) => with_exceptions(instants, &master.exceptions),
-        None => Ok(Instants::of(instants)),
-    }
-}
-
-fn with_exceptions(instants: Vec<i64>, exceptions: &[i64]) -> Result<Instants, AllocError>
-    ensures { IfOk result (λ hidden. IsPermutation (instants.items ++ exceptions.now) hidden) }
-{
-    let mut hidden = instants;
-    hidden.extend_from_slice(exceptions)?;
-    Ok(Instants::of(hidden))
-}
-
-/// The starts that RDATE gives.
-fn added_of(
-    alloc: Global,
-    master: &Option<EventComponent>,
-    hidden: &Instants,
-) -> Result<Instants, AllocError>
-    ensures { IfOk result (λ added. (c : EventComponent) → master.now ≡ Some c → AreStartsOf c.additions.items hidden.now added) }
-{
-    match master {
-        Some(master) => starts_of(alloc, &master.additions, hidden),
-        None => Ok(Instants::of(Vec::new(alloc))),
-    }
-}
-
-/// Those of the instants that are starts.
-fn starts_of(alloc: Global, instants: &[i64], hidden: &Instants) -> Result<Instants, AllocError>
-    ensures { IfOk result (AreStartsOf instants.now hidden.now) }
-{
-    let mut starts = Vec::new(alloc);
-    for instant in instants {
-        if !is_start(*instant, hidden) {
-            continue;
-        }
-        starts.push(*instant)?;
-    }
-    Ok(Instants::of(starts))
-}

@@ -11,12 +11,15 @@ ghost use Rattle.profile.specs.events.Properties.{is_of};
 ghost use Rattle.profile.specs.events.ZonedTimes.{SaysTimes, clock_of};
 ghost use Rattle.profile.specs.events.EventRules as event_rules;
 ghost use Rattle.profile.specs.events.EventRules.{IsLastAllowed, AllowsNone, GivesRule, SaysEventRule, IsOutsideRule, EventRuleFault};
-ghost use Rattle.cal_events.specs.Component.{times_of, zone_said, local_said};
+ghost use Rattle.profile.specs.events.EventComponents.{EventComponentFault};
+ghost use Rattle.cal_events.specs.Component.{method_read, times_of, zone_said, local_said};
 ghost use Rattle.cal_events.specs.Zoned.{IsRuleSaid};
 
 use crate::event_times::{EventTimes, FIRST_SECOND};
 use crate::instance::HORIZON;
-use crate::properties::optional;
+use crate::method::Method;
+use crate::properties::line_of;
+use crate::property::Property;
 use crate::when::When;
 use cal_days::Day;
 use cal_rules::{Rule, RuleText, Until};
@@ -35,11 +38,15 @@ pub(crate) struct SaidRule {
 impl SaidRule {
     /// Reads the RRULE of a VEVENT.
     /// Refused: 61 where it occurs twice, and 30 to 33 as by `RuleText::read`.
-    pub(crate) fn read(alloc: Global, properties: &Properties<'_>) -> Result<SaidRule, Fault>
+    pub(crate) fn read(
+        alloc: Global,
+        properties: &Properties<'_>,
+        method: Option<Method>,
+    ) -> Result<SaidRule, Fault>
         ensures said { IfOk result (IsRuleSaid properties.now) }
-        ensures fault { (object : Tree) → IfErr result (RefusesBy (EventRuleFault object properties.now)) }
+        ensures fault { (object : Tree) → IfErr result (RefusesBy (EventComponentFault object (method_read method) properties.now)) }
     {
-        let text = match optional(properties, "RRULE")? {
+        let text = match line_of(properties, Property::Rrule, method)? {
             Some(line) => Some(RuleText::read(alloc, line.value())?),
             None => None,
         };
@@ -89,7 +96,7 @@ fn last_day(until: Option<Until>, clock: Zone, second: u32) -> Option<Day>
     }
 }
 
-/// The same where there is an UNTIL. A date is that day itself, a local time is read on those clocks.
+/// The last day that an UNTIL allows. A date is that day itself, a local time is read on those clocks.
 fn day_until(until: &Until, clock: Zone, second: u32) -> Option<Day>
     requires { second < 86_400 }
     ensures { MatchOption result (AllowsNone (zone_of clock) second (Some (until_of until.now)))

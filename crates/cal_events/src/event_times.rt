@@ -10,14 +10,17 @@ ghost use Rattle.profile.specs.events.Starts.{IsCountedFrom, IsDaysLater, EndsAt
 ghost use Rattle.cal_zones.specs.Kinds.{zone_of};
 ghost use Rattle.profile.specs.events.Properties.{WholeDay, length_seconds, OccursAtMostOnce};
 ghost use Rattle.profile.specs.events.ZonedTimes.{is_in_zone, past_locals, IsInDates, SuitsForm, length_alone, ZonedTimeFault, SaysEventTimes, SaysNoStart, SaysTimes, EventTimesFault};
-ghost use Rattle.cal_events.specs.Component.{times_of, length_of, form_of, form_said, local_said, IsLengthTo, GivesLength, GivesAlone, ExtentFault, AloneFault};
+ghost use Rattle.profile.specs.events.EventComponents.{may_lack_start, EventComponentFault};
+ghost use Rattle.cal_events.specs.Component.{method_read, times_of, length_of, form_of, form_said, local_said, IsLengthTo, GivesLength, GivesAlone, ExtentFault, AloneFault};
 ghost use Rattle.cal_events.specs.declared.event_times.Extent.TheVariants.{To, For};
 ghost use Rattle.cal_events.specs.Zones.{object_of, AreRead};
 ghost use Rattle.cal_events.specs.Overlapping.{LastAtMost};
 ghost use Rattle.cal_events.specs.Zoned.{ends_in, EndsSo, IsExtentIn, AreSaid, AreSaidAlone, AreSaidBy, IsInYears};
 
 use crate::instance::HORIZON;
-use crate::properties::optional;
+use crate::method::Method;
+use crate::properties::line_of;
+use crate::property::Property;
 use crate::when::{Form, When, is_in_zone};
 use crate::zones::ZonesOfObject;
 use cal_zones::Zone;
@@ -105,7 +108,7 @@ fn counted_from(form: Form, clock: &Zone, instant: i64) -> i64
     }
 }
 
-/// The same of a whole day whose start the clocks show as this local time.
+/// The second from which a whole day is counted whose start the clocks show as this local time.
 fn day_from(clock: &Zone, instant: i64, shown: i64) -> i64
     requires start { IsClockSeconds instant }
     requires shown { Shows (zone_of clock.now) instant shown }
@@ -189,23 +192,21 @@ pub(crate) enum SaidTimes {
 }
 
 impl SaidTimes {
-    /// Reads the start of a VEVENT, which may be missing or not, and its end or its length, where they may name these zones.
+    /// Reads the start of a VEVENT, which METHOD may let be missing, and its end or its length, where they may name these zones.
     /// Refused: 61 where DTSTART is missing and may not, one of the three occurs twice, or DTEND beside DURATION; as by
     /// `When::read` for the two times; 12 and 51 for DURATION.
     pub(crate) fn read(
         zones: &ZonesOfObject<'_, '_>,
         properties: &Properties<'_>,
-        may_lack: bool,
+        method: Option<Method>,
     ) -> Result<SaidTimes, Refusal>
         requires zones { AreRead zones.now }
-        ensures said { IfOk result (AreSaidBy may_lack (object_of zones.now) properties.now) }
-        ensures fault { IfErr result (λ e. EventTimesFault may_lack (object_of zones.now) properties.now e.number) }
+        ensures said { IfOk result (AreSaidBy (may_lack_start (method_read method)) (object_of zones.now) properties.now) }
+        ensures fault { IfErr result (λ e. EventComponentFault (object_of zones.now) (method_read method) properties.now e.number) }
     {
-        let line = optional(properties, "DTSTART")?;
-        match line {
-            Some(line) => SaidTimes::from_start(line, zones, properties),
-            None if may_lack => Ok(SaidTimes::Alone(read_extent(zones, properties, 0)?)),
-            None => Err(Refusal::BAD_PROPERTY),
+        match line_of(properties, Property::Dtstart, method)? {
+            Some(line) => SaidTimes::from_start(line, zones, properties, method),
+            None => Ok(SaidTimes::Alone(read_extent(zones, properties, method, 0)?)),
         }
     }
 
@@ -214,16 +215,17 @@ impl SaidTimes {
         line: Line<'_>,
         zones: &ZonesOfObject<'_, '_>,
         properties: &Properties<'_>,
+        method: Option<Method>,
     ) -> Result<SaidTimes, Refusal>
         requires zones { AreRead zones.now }
         requires once { OccursAtMostOnce (codes "DTSTART") properties.now (Some (line_text line)) }
         ensures said { (may_lack : Bool) → IfOk result (AreSaidBy may_lack (object_of zones.now) properties.now) }
-        ensures fault { (may_lack : Bool) → IfErr result (λ e. EventTimesFault may_lack (object_of zones.now) properties.now e.number) }
+        ensures fault { IfErr result (λ e. EventComponentFault (object_of zones.now) (method_read method) properties.now e.number) }
     {
         let start = When::read(line, zones)?;
         let instant = start.instant();
         let in_dates = is_in_dates(&start, false, is_in_zone(line), instant);
-        let extent = read_extent(zones, properties, instant)?;
+        let extent = read_extent(zones, properties, method, instant)?;
         Ok(SaidTimes::From {
             start,
             instant,
@@ -240,7 +242,7 @@ impl SaidTimes {
         ensures says { (may_lack : Bool) (object : Tree) (lines : List (List ℕ)) → AreSaidBy may_lack object lines self
             → IfOk result (λ times. SaysTimes may_lack object lines (times_of times)) }
         ensures fault { (may_lack : Bool) (object : Tree) (lines : List (List ℕ)) → AreSaidBy may_lack object lines self
-            → IfErr result (λ e. EventTimesFault may_lack object lines e.number) }
+            → IfErr result (λ e. EventTimesFault object lines e.number) }
     {
         match self {
             SaidTimes::From {
@@ -283,15 +285,16 @@ fn past_locals(is_end: bool) -> i64
 fn read_extent(
     zones: &ZonesOfObject<'_, '_>,
     properties: &Properties<'_>,
+    method: Option<Method>,
     start: i64,
 ) -> Result<Extent, Refusal>
     requires zones { AreRead zones.now }
     requires start { IsNearEpoch start }
     ensures reads { IfOk result (IsExtentIn (object_of zones.now) properties.now start) }
-    ensures fault { (may_lack : Bool) → IfErr result (λ e. EventTimesFault may_lack (object_of zones.now) properties.now e.number) }
+    ensures fault { IfErr result (λ e. EventComponentFault (object_of zones.now) (method_read method) properties.now e.number) }
 {
-    let end = optional(properties, "DTEND")?;
-    let duration = optional(properties, "DURATION")?;
+    let end = line_of(properties, Property::Dtend, method)?;
+    let duration = line_of(properties, Property::Duration, method)?;
     match (end, duration) {
         (Some(_), Some(_)) => Err(Refusal::BAD_PROPERTY),
         (Some(line), None) => Ok(Extent::To(read_end(line, zones, start)?)),
@@ -326,8 +329,8 @@ fn judge_from(
 ) -> Result<EventTimes, Refusal>
     ensures says { (object : Tree) (lines : List (List ℕ)) → AreSaid object lines start instant in_dates extent
         → IfOk result (λ times. SaysEventTimes object lines (times_of times)) }
-    ensures fault { (may_lack : Bool) (object : Tree) (lines : List (List ℕ)) → AreSaid object lines start instant in_dates extent
-        → IfErr result (λ e. EventTimesFault may_lack object lines e.number) }
+    ensures fault { (object : Tree) (lines : List (List ℕ)) → AreSaid object lines start instant in_dates extent
+        → IfErr result (λ e. EventTimesFault object lines e.number) }
 {
     let length = length_from(start.form(), extent)?;
     if !in_dates || !extent.ends_in() {
@@ -348,8 +351,8 @@ fn judge_from(
 fn judge_alone(extent: Extent) -> Result<EventTimes, Refusal>
     ensures says { (object : Tree) (lines : List (List ℕ)) → AreSaidAlone object lines extent
         → IfOk result (λ times. SaysNoStart object lines (times_of times)) }
-    ensures fault { (may_lack : Bool) (object : Tree) (lines : List (List ℕ)) → AreSaidAlone object lines extent
-        → IfErr result (λ e. EventTimesFault may_lack object lines e.number) }
+    ensures fault { (object : Tree) (lines : List (List ℕ)) → AreSaidAlone object lines extent
+        → IfErr result (λ e. EventTimesFault object lines e.number) }
 {
     let length = length_without_start(extent)?;
     if !extent.ends_in() {

@@ -1,7 +1,7 @@
 //! The instances of an event (RFC 5545 3.8.5.3, 3.8.5.2, 3.8.5.1, 3.8.4.4), by start and then by slot. None is kept: each is looked for from
 //! the place of the one before it, and on the days of the rule that are still to be looked at.
 
-ghost use Rattle.std.specs.Prelude.{◌≡◌, ◌↔◌, ◌<◌, ◌≤ℤ◌, ◌<ℤ◌, ℤ, pos, IsTrue, Some, None, map, option_map, Contains, IfSome, IfNone};
+ghost use Rattle.std.specs.Prelude.{◌≡◌, ◌↔◌, ◌<◌, ◌≤ℤ◌, ◌<ℤ◌, ℤ, pos, IsTrue, List, [], Some, None, option_map, Contains, IfSome, IfNone};
 ghost use Rattle.profile.specs.series.Days.{day_index};
 ghost use Rattle.profile.specs.text.Values.{IsClockSeconds};
 ghost use Rattle.profile.specs.series.Zones.{IsOneMeaning, IsNearEpoch, Means, local_time};
@@ -10,19 +10,22 @@ ghost use Rattle.profile.specs.checker.Instances.{Instance as SaidInstance, hori
 ghost use Rattle.profile.specs.rooms.Messages.{is_in_dates};
 ghost use Rattle.profile.specs.events.Starts.{IsGiven, IsStart, IsInstance, EndsAt, key_at};
 ghost use Rattle.cal_events.specs.Clocks.{IsAscending, HasGoodClock};
-ghost use Rattle.cal_events.specs.Calendar.{key_of, instance_of};
+ghost use Rattle.cal_events.specs.Calendar.{key_of, key_in, instance_of};
 ghost use Rattle.cal_events.specs.Event.{said_meeting};
 ghost use Rattle.cal_zones.specs.Kinds.{zone_of};
-ghost use Rattle.cal_events.specs.Component.{component_of, zone_said};
+ghost use Rattle.profile.specs.events.EventComponents.{EventComponent as SaidComponent};
+ghost use Rattle.cal_events.specs.Component.{times_of, zone_said};
+ghost use Rattle.cal_events.specs.Recurrence.{name_of, recurring};
 ghost use Rattle.cal_events.specs.MeetingComponents.{IsInEventDates};
 ghost use Rattle.cal_events.specs.Instances.{IsAfter, IsPastSlot, IsBefore, IsWanted, NoneBefore, AreWalked, StayWalked, IsLeast, lesser, IsAtPlace, IsMovedTo, IsSoonest, IsSooner, HasPassed, IsOfClock, HasClock, IsHeldAt, IsHeld, own_place};
 ghost use Rattle.cal_events.specs.declared.component.EventComponent.{EventComponent};
 
 use crate::component::EventComponent;
 use crate::event::Event;
-use crate::event_times::FIRST_SECOND;
-use crate::instance::{HORIZON, Instance, InstanceKey};
+use crate::event_times::{EventTimes, FIRST_SECOND};
+use crate::instance::{HORIZON, Instance};
 use crate::instants::Instants;
+use crate::recurrence::{EventName, Recurrence};
 use crate::rule_days::RuleDays;
 use crate::when::When;
 use cal_days::Day;
@@ -95,12 +98,12 @@ pub struct Instances<'a> {
     event: &'a Event,
     /// Those that it admits are.
     after: Bound,
-    /// On none of the master's other rule days is one to come.
+    /// On none of the other days of the rule is one to come.
     days: RuleDays<'a>,
     /// Those of DTSTART's zone.
     clock: Clock,
-    ghost passed: { HasPassed event.now.master event.now.overrides.items after days },
-    ghost reads: { HasClock event.now.master clock },
+    ghost passed: { HasPassed event.now.recurrence after days },
+    ghost reads: { HasClock event.now.recurrence clock },
 }
 
 impl<'a> Instances<'a> {
@@ -144,24 +147,24 @@ impl<'a> Iterator for Instances<'a> {
     }
 }
 
-/// Whether an instant that the master's rule or an RDATE gives is one of its starts, and is to come.
-fn is_wanted(event: &Event, after: Bound, instant: i64) -> bool
-    ensures { (master : EventComponent) → event.now.master ≡ Some master → IsTrue result ↔ IsWanted (component_of master) (map component_of event.now.overrides.items) after instant }
+/// Whether an instant that is given is a start, and is to come.
+fn is_wanted(recurrence: &Recurrence, after: Bound, instant: i64) -> bool
+    ensures { IsTrue result ↔ IsWanted (recurring recurrence.now) [] after instant }
 {
     if !after.admits(instant, instant) {
         return false;
     }
-    is_start(instant, &event.hidden)
+    is_start(instant, &recurrence.exceptions)
 }
 
-/// Whether an instant that is given is a start: it is in the dates that an event may name, and none hides it.
-pub(crate) fn is_start(instant: i64, hidden: &Instants) -> bool
-    ensures { IsTrue result ↔ (IsInEventDates instant × (Contains hidden.now instant → ⊥)) }
+/// Whether an instant that is given is a start: it is in the dates that an event may name, and isn't excepted.
+pub(crate) fn is_start(instant: i64, exceptions: &Instants) -> bool
+    ensures { IsTrue result ↔ (IsInEventDates instant × (Contains exceptions.now instant → ⊥)) }
 {
     if !is_in_event_dates(instant) {
         return false;
     }
-    !hidden.has(instant)
+    !exceptions.has(instant)
 }
 
 /// Whether an instant is in the dates that an event may name: in UTC from 1969-12-31 on, and before 10000-01-01T00:00:00Z.
@@ -172,11 +175,11 @@ pub fn is_in_event_dates(instant: i64) -> bool
     instant < HORIZON && instant >= FIRST_SECOND
 }
 
-/// The first start after a bound that RDATE adds.
-fn first_added(event: &Event, after: Bound) -> Option<i64>
-    ensures { (master : EventComponent) → event.now.master ≡ Some master → IsLeast (λ t. Contains (component_of master).additions t × IsWanted (component_of master) (map component_of event.now.overrides.items) after t) result }
+/// The first start after a bound that is added.
+fn first_added(recurrence: &Recurrence, after: Bound) -> Option<i64>
+    ensures { IsLeast (λ t. Contains recurrence.now.additions t × IsWanted (recurring recurrence.now) [] after t) result }
 {
-    event.added.first_from(after.first_own_start())
+    recurrence.additions.first_from(after.first_own_start())
 }
 
 /// The lesser of two instants, where there are any.
@@ -193,35 +196,31 @@ fn lesser(a: Option<i64>, b: Option<i64>) -> Option<i64>
 
 /// The first start after a bound that DTSTART or the rule gives.
 fn first_given(
-    event: &Event,
-    master: &EventComponent,
+    recurrence: &Recurrence,
     after: Bound,
     days: &mut RuleDays<'_>,
     clock: &mut Clock,
 ) -> Option<i64>
-    requires master { event.now.master ≡ Some master.now }
-    requires meaning { IsOneMeaning (clock_of (component_of master.now).times.zone) }
-    requires ascending { IsAscending (clock_of (component_of master.now).times.zone) }
-    requires walked { AreWalked (component_of master.now) (map component_of event.now.overrides.items) after days.old }
-    requires reads { IsOfClock (component_of master.now) clock.old }
-    ensures first { IsLeast (λ t. IsGiven (component_of master.now).times (component_of master.now).rule t × IsWanted (component_of master.now) (map component_of event.now.overrides.items) after t) result }
-    ensures walked { AreWalked (component_of master.now) (map component_of event.now.overrides.items) after days.new }
-    ensures reads { IsOfClock (component_of master.now) clock.new }
+    requires walked { AreWalked (recurring recurrence.now) [] after days.old }
+    requires reads { IsOfClock (recurring recurrence.now) clock.old }
+    ensures first { IsLeast (λ t. IsGiven (recurring recurrence.now).times (recurring recurrence.now).rule t × IsWanted (recurring recurrence.now) [] after t) result }
+    ensures walked { AreWalked (recurring recurrence.now) [] after days.new }
+    ensures reads { IsOfClock (recurring recurrence.now) clock.new }
 {
-    match &master.rule {
-        Some(rule) => first_on_rule(event, master, rule, after, days, clock),
+    match &recurrence.rule {
+        Some(rule) => first_on_rule(recurrence, rule, after, days, clock),
         None => {
-            let start = master.times.instant.instant();
-            wanted_at(event, after, start)
+            let start = recurrence.times.instant.instant();
+            wanted_at(recurrence, after, start)
         }
     }
 }
 
-/// An instant that the master's rule or an RDATE gives, if it is one of its starts and is to come.
-fn wanted_at(event: &Event, after: Bound, instant: i64) -> Option<i64>
-    ensures { (master : EventComponent) → event.now.master ≡ Some master → IsLeast (λ t. (t ≡ instant) × IsWanted (component_of master) (map component_of event.now.overrides.items) after t) result }
+/// An instant that is given, if it is a start and is to come.
+fn wanted_at(recurrence: &Recurrence, after: Bound, instant: i64) -> Option<i64>
+    ensures { IsLeast (λ t. (t ≡ instant) × IsWanted (recurring recurrence.now) [] after t) result }
 {
-    if is_wanted(event, after, instant) {
+    if is_wanted(recurrence, after, instant) {
         return Some(instant);
     }
     None
@@ -229,28 +228,24 @@ fn wanted_at(event: &Event, after: Bound, instant: i64) -> Option<i64>
 
 /// The first start after a bound that the rule gives.
 fn first_on_rule(
-    event: &Event,
-    master: &EventComponent,
+    recurrence: &Recurrence,
     _rule: &Rule,
     after: Bound,
     days: &mut RuleDays<'_>,
     clock: &mut Clock,
 ) -> Option<i64>
-    requires rule { master.now.rule ≡ Some _rule.now }
-    requires master { event.now.master ≡ Some master.now }
-    requires meaning { IsOneMeaning (clock_of (component_of master.now).times.zone) }
-    requires ascending { IsAscending (clock_of (component_of master.now).times.zone) }
-    requires walked { AreWalked (component_of master.now) (map component_of event.now.overrides.items) after days.old }
-    requires reads { IsOfClock (component_of master.now) clock.old }
-    ensures first { IsLeast (λ t. IsGiven (component_of master.now).times (component_of master.now).rule t × IsWanted (component_of master.now) (map component_of event.now.overrides.items) after t) result }
-    ensures walked { AreWalked (component_of master.now) (map component_of event.now.overrides.items) after days.new }
-    ensures reads { IsOfClock (component_of master.now) clock.new }
+    requires rule { recurrence.now.rule ≡ Some _rule.now }
+    requires walked { AreWalked (recurring recurrence.now) [] after days.old }
+    requires reads { IsOfClock (recurring recurrence.now) clock.old }
+    ensures first { IsLeast (λ t. IsGiven (recurring recurrence.now).times (recurring recurrence.now).rule t × IsWanted (recurring recurrence.now) [] after t) result }
+    ensures walked { AreWalked (recurring recurrence.now) [] after days.new }
+    ensures reads { IsOfClock (recurring recurrence.now) clock.new }
 {
-    let (_, second) = master.times.start.local().day_and_second();
+    let (_, second) = recurrence.times.start.local().day_and_second();
     pass_given(after, days);
     while let Some(found) = days.next() {
         let start = start_by(clock, found, second);
-        if is_wanted(event, after, start) {
+        if is_wanted(recurrence, after, start) {
             days.put_back(found, start);
             return Some(start);
         }
@@ -292,12 +287,12 @@ fn start_by(clock: &mut Clock, day: Day, second: u32) -> i64
     clock.resolve(local)
 }
 
-/// The clocks of the zone of the master's DTSTART.
+/// The clocks of the zone of DTSTART.
 fn clock_of(event: &Event) -> Clock
-    ensures { HasClock event.now.master result }
+    ensures { HasClock event.now.recurrence result }
 {
-    match &event.master {
-        Some(master) => Clock::of(master.times.start.clock()),
+    match &event.recurrence {
+        Some(recurrence) => Clock::of(recurrence.times.start.clock()),
         None => Clock::of(Zone::utc()),
     }
 }
@@ -330,37 +325,33 @@ fn override_at<'a>(event: &'a Event, place: InstancePlace) -> Option<&'a EventCo
     Some(&event.overrides[which])
 }
 
-/// The days of the master's rule that may start at an instant or later.
+/// The days of the rule that may start at an instant or later.
 fn days_from(event: &Event, from: i64) -> RuleDays<'_>
-    ensures { HasPassed event.now.master event.now.overrides.items (record { start = from; slot = None }) result }
+    ensures { HasPassed event.now.recurrence (record { start = from; slot = None }) result }
 {
-    match &event.master {
-        Some(master) => days_of(master, event.overrides.as_slice(), from),
+    match &event.recurrence {
+        Some(recurrence) => days_of(&recurrence.times, &recurrence.rule, from),
         None => RuleDays::none(),
     }
 }
 
-/// The same of a master.
-pub(crate) fn days_of<'a>(
-    master: &'a EventComponent,
-    overrides: &[EventComponent],
-    from: i64,
-) -> RuleDays<'a>
-    ensures { AreWalked (component_of master.now) (map component_of overrides.now) (record { start = from; slot = None }) result }
+/// Those of a rule, if there is one, at DTSTART's second of the day.
+pub(crate) fn days_of<'a>(times: &EventTimes, given: &'a Option<Rule>, from: i64) -> RuleDays<'a>
+    ensures { (master : SaidComponent) (overrides : List SaidComponent) → master.times ≡ times_of times.now → master.rule ≡ given.now
+        → AreWalked master overrides (record { start = from; slot = None }) result }
 {
-    match &master.rule {
-        Some(rule) => RuleDays::of(rule, first_day(master, rule, overrides, from)),
+    match given {
+        Some(rule) => RuleDays::of(rule, first_day(times, rule, from)),
         None => RuleDays::none(),
     }
 }
 
-/// A day before which no day of the master's rule starts at an instant or later. Where the clocks show more than the least offset it starts
-/// even earlier.
-fn first_day(master: &EventComponent, rule: &Rule, overrides: &[EventComponent], from: i64) -> Day
-    requires { master.now.rule ≡ Some rule.now }
-    ensures { NoneBefore (component_of master.now) (map component_of overrides.now) (record { start = from; slot = None }) (day_index result) }
+/// A day before which no day of a rule starts at an instant or later. Where the clocks show more than the least offset it starts even earlier.
+fn first_day(times: &EventTimes, rule: &Rule, from: i64) -> Day
+    ensures { (master : SaidComponent) (overrides : List SaidComponent) → master.times ≡ times_of times.now → master.rule ≡ Some rule.now
+        → NoneBefore master overrides (record { start = from; slot = None }) (day_index result) }
 {
-    let (least, _) = master.times.start.clock().offsets();
+    let (least, _) = times.start.clock().offsets();
     match LocalTime::of_seconds(from.saturating_add(least as i64)) {
         Some(local) => local.day_and_second().0,
         None => rule.start(),
@@ -374,40 +365,37 @@ fn first_place(
     days: &mut RuleDays<'_>,
     clock: &mut Clock,
 ) -> Option<InstancePlace>
-    requires passed { HasPassed event.now.master event.now.overrides.items after days.old }
-    requires reads { HasClock event.now.master clock.old }
-    ensures first { IsSoonest (IsHeld event.now.master event.now.overrides.items after) result }
-    ensures passed { HasPassed event.now.master event.now.overrides.items after days.new }
-    ensures reads { HasClock event.now.master clock.new }
+    requires passed { HasPassed event.now.recurrence after days.old }
+    requires reads { HasClock event.now.recurrence clock.old }
+    ensures first { IsSoonest (IsHeld event.now.recurrence event.now.overrides.items after) result }
+    ensures passed { HasPassed event.now.recurrence after days.new }
+    ensures reads { HasClock event.now.recurrence clock.new }
 {
     let moved = first_moved(event, after);
-    match &event.master {
-        Some(master) => {
-            let start = first_start(event, master, after, days, clock);
+    match &event.recurrence {
+        Some(recurrence) => {
+            let start = first_start(recurrence, after, days, clock);
             sooner(own_place(start), moved)
         }
         None => moved,
     }
 }
 
-/// The first start of the master that is to come.
+/// The first start that is to come.
 fn first_start(
-    event: &Event,
-    master: &EventComponent,
+    recurrence: &Recurrence,
     after: Bound,
     days: &mut RuleDays<'_>,
     clock: &mut Clock,
 ) -> Option<i64>
-    requires master { event.now.master ≡ Some master.now }
-    requires clock { HasGoodClock (component_of master.now) }
-    requires walked { AreWalked (component_of master.now) (map component_of event.now.overrides.items) after days.old }
-    requires reads { IsOfClock (component_of master.now) clock.old }
-    ensures first { IsLeast (λ t. IsStart (component_of master.now) (map component_of event.now.overrides.items) t × IsAfter after t t) result }
-    ensures walked { AreWalked (component_of master.now) (map component_of event.now.overrides.items) after days.new }
-    ensures reads { IsOfClock (component_of master.now) clock.new }
+    requires walked { AreWalked (recurring recurrence.now) [] after days.old }
+    requires reads { IsOfClock (recurring recurrence.now) clock.old }
+    ensures first { IsLeast (λ t. IsStart (recurring recurrence.now) [] t × IsAfter after t t) result }
+    ensures walked { AreWalked (recurring recurrence.now) [] after days.new }
+    ensures reads { IsOfClock (recurring recurrence.now) clock.new }
 {
-    let given = first_given(event, master, after, days, clock);
-    let added = first_added(event, after);
+    let given = first_given(recurrence, after, days, clock);
+    let added = first_added(recurrence, after);
     lesser(given, added)
 }
 
@@ -423,35 +411,28 @@ fn own_place(start: Option<i64>) -> Option<InstancePlace>
 
 /// The instance at a place.
 fn instance_at<'a>(event: &'a Event, place: InstancePlace) -> Instance<'a>
-    requires { IsHeldAt event.now.master event.now.overrides.items place }
+    requires { IsHeldAt event.now.recurrence event.now.overrides.items place }
     ensures instance { IsInstance (said_meeting event.now) (instance_of result) }
     ensures start { result.start ≡ place.start }
     ensures slot { result.key.slot ≡ place.slot }
 {
-    match (override_at(event, place), &event.master) {
-        (Some(component), _) => {
-            instance_from(component, component.times.instant.instant(), place.slot)
-        }
-        (None, Some(master)) => instance_from(master, place.start, place.slot),
+    match (override_at(event, place), &event.recurrence) {
+        (Some(component), _) => instance_with(&event.name, &component.times, place),
+        (None, Some(recurrence)) => instance_with(&event.name, &recurrence.times, place),
         (None, None) => unreachable!(),
     }
 }
 
-/// The instance of a VEVENT at a start, with that slot.
-fn instance_from<'a>(component: &'a EventComponent, start: i64, slot: i64) -> Instance<'a>
-    requires { IsClockSeconds start }
-    ensures key { key_of result.key ≡ key_at (component_of component.now) slot }
-    ensures start { result.start ≡ start }
-    ensures ends { EndsAt (component_of component.now).times start result.end }
+/// The instance at a place, of an event of that name that lasts so.
+fn instance_with<'a>(name: &'a EventName, times: &EventTimes, place: InstancePlace) -> Instance<'a>
+    requires { IsClockSeconds place.start }
+    ensures key { key_of result.key ≡ key_in (name_of name.now) place.slot }
+    ensures start { result.start ≡ place.start }
+    ensures ends { EndsAt (times_of times.now) place.start result.end }
 {
-    let key = InstanceKey {
-        organiser: component.organiser_text(),
-        uid: component.uid.as_str(),
-        slot,
-    };
     Instance {
-        key,
-        start,
-        end: component.times.end_from(start),
+        key: name.key(place.slot),
+        start: place.start,
+        end: times.end_from(place.start),
     }
 }

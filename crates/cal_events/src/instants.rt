@@ -1,12 +1,14 @@
-//! Instants in order, among which one is looked for by binary search.
+//! Instants in order, each once, among which one is looked for by binary search.
 
-ghost use Rattle.std.specs.Prelude.{◌≡◌, ◌≢◌, ◌↔◌, AllPairs, Contains, IsTrue, MatchBool};
-ghost use Rattle.std.specs.List.Sorted.{IsPermutation};
+ghost use Rattle.std.specs.Prelude.{◌≡◌, ◌≢◌, ◌↔◌, ◌<ℤ◌, ℤ, AllPairs, Contains, IsTrue, MatchBool, IfOk};
+ghost use Rattle.std.specs.List.Sorted.{IsSorted};
+ghost use Rattle.std.specs.Ordering.{int_cmp};
 ghost use Rattle.cal_events.specs.Instants.{IsFirstFrom};
 
+use std::alloc::{AllocError, Global};
 use std::marker::Model;
 
-/// Instants in order, each as often as it was given.
+/// Instants in order, each once.
 #[derive(Drop)]
 pub(crate) struct Instants {
     sorted: Vec<i64>,
@@ -15,22 +17,24 @@ pub(crate) struct Instants {
 impl Model for Instants {
     ghost use Rattle.std.specs.Prelude.{List, ℤ};
     ghost use Rattle.std.specs.Ordering.{int_cmp};
-    ghost use Rattle.std.specs.List.Sorted.{IsSorted};
+    ghost use Rattle.std.specs.List.Sorted.{IsSorted, IsStrictlySortedBy};
 
     ghost Value = { List ℤ };
 
     ghost view = { λ instants. instants.sorted.items };
 
-    ghost invariant = { λ instants. IsSorted int_cmp instants.sorted.items };
+    ghost invariant = { λ instants. IsSorted int_cmp instants.sorted.items × IsStrictlySortedBy int_cmp instants.sorted.items };
 }
 
 impl Instants {
-    /// Puts them in order.
+    /// Puts them in order, and keeps each once.
     pub(crate) fn of(instants: Vec<i64>) -> Instants
-        ensures { IsPermutation instants.items result }
+        ensures same { (t : ℤ) → Contains result t ↔ Contains instants.items t }
+        ensures ascending { AllPairs ◌<ℤ◌ result }
     {
         let mut sorted = instants;
         sorted.sort_unstable();
+        sorted.dedup();
         Instants { sorted }
     }
 
@@ -48,19 +52,6 @@ impl Instants {
         self.sorted.binary_search(&instant).is_ok()
     }
 
-    /// Whether two of them are one.
-    pub(crate) fn has_twins(&self) -> bool
-        ensures { MatchBool result (AllPairs ◌≢◌ self.now → ⊥) (AllPairs ◌≢◌ self.now) }
-    {
-        let sorted = self.sorted.as_slice();
-        for next in 1..sorted.len() {
-            if sorted[next - 1] == sorted[next] {
-                return true;
-            }
-        }
-        false
-    }
-
     /// The first of them that isn't before an instant.
     pub(crate) fn first_from(&self, from: i64) -> Option<i64>
         ensures { IsFirstFrom self.now from result }
@@ -71,4 +62,34 @@ impl Instants {
         }
         None
     }
+}
+
+/// Whether two of the instants are one. In time n log n.
+pub(crate) fn has_twins(instants: Vec<i64>) -> bool
+    ensures { MatchBool result (AllPairs ◌≢◌ instants.items → ⊥) (AllPairs ◌≢◌ instants.items) }
+{
+    let mut sorted = instants;
+    sorted.sort_unstable();
+    has_equal_neighbours(&sorted)
+}
+
+fn has_equal_neighbours(sorted: &[i64]) -> bool
+    requires { IsSorted int_cmp sorted.now }
+    ensures { MatchBool result (AllPairs ◌≢◌ sorted.now → ⊥) (AllPairs ◌≢◌ sorted.now) }
+{
+    for next in 1..sorted.len() {
+        if sorted[next - 1] == sorted[next] {
+            return true;
+        }
+    }
+    false
+}
+
+/// A copy of the instants. It fails only when out of memory.
+pub(crate) fn copied(alloc: Global, instants: &[i64]) -> Result<Vec<i64>, AllocError>
+    ensures { IfOk result (λ copy. copy.items ≡ instants.now) }
+{
+    let mut copy = Vec::new(alloc);
+    copy.extend_from_slice(instants)?;
+    Ok(copy)
 }

@@ -20,7 +20,9 @@ mod own_instances;
 mod place;
 mod places;
 mod properties;
+mod property;
 mod reading;
+mod recurrence;
 mod regular;
 mod rule_days;
 mod series;
@@ -43,6 +45,7 @@ pub use instances::{Instances, is_in_event_dates};
 pub use meeting_components::read_meeting;
 pub use method::Method;
 pub use occurrences::WrittenTimes;
+pub use property::{PROPERTIES, Presence, Property};
 pub use reading::{
     calendar_series_are_said, one_calendar, one_calendar_text, series_and_singles_divide,
     singles_are_confirmed,

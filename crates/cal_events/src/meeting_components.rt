@@ -13,8 +13,8 @@ ghost use Rattle.cal_zones.specs.RoomZones.{room_of};
 ghost use Rattle.cal_events.specs.MeetingComponents.{instants_said, times_named, NameInstances, AreOfObject, AreOfObjectIn, IsNotOne, SharesSlot};
 
 use crate::component::EventComponent;
-use crate::instants::Instants;
-use crate::method::{Method, adds_instances};
+use crate::instants::has_twins;
+use crate::method::Method;
 use crate::reading::read_events;
 use crate::time::Time;
 use crate::when::Form;
@@ -98,7 +98,7 @@ pub fn read_meeting(
     read_meeting_in(alloc, object, method, &utc)
 }
 
-/// The same in a room of this zone.
+/// The VEVENTs of one meeting, as a room of this zone has them.
 fn read_meeting_in(
     alloc: Global,
     object: &Component,
@@ -124,10 +124,10 @@ fn taken_for(
 ) -> Result<Vec<EventComponent>, AllocError>
     ensures { IfOk result (λ taken. map component_of taken.items ≡ taken_by (method_read method) (map component_of components.items)) }
 {
-    if adds_instances(method) {
-        return all_added(alloc, components);
+    match method {
+        Some(Method::Add) => all_added(alloc, components),
+        _ => Ok(components),
     }
-    Ok(components)
 }
 
 /// Components as an ADD takes them. It fails only when out of memory.
@@ -251,7 +251,7 @@ fn share_instant(alloc: Global, components: &[EventComponent]) -> Result<bool, A
             instants.push(instant)?;
         }
     }
-    Ok(Instants::of(instants).has_twins())
+    Ok(has_twins(instants))
 }
 
 /// Whether two name the same time, of one form and one instant.
@@ -297,5 +297,5 @@ fn share_form(alloc: Global, times: &[Time], form: Form) -> Result<bool, AllocEr
             instants.push(time.instant)?;
         }
     }
-    Ok(Instants::of(instants).has_twins())
+    Ok(has_twins(instants))
 }

@@ -1,9 +1,8 @@
-//! What an object asks for, by its METHOD (RFC 5546 1.4). It says which properties of a VEVENT are required, and to whom the object goes.
-ghost use Rattle.std.specs.Prelude.{◌≡◌};
-ghost use Rattle.profile.specs.events.EventComponents.{adds_instances, may_lack_start, names_by_fixed};
-ghost use Rattle.profile.specs.events.Messages.{is_of_attendee, is_to_rooms};
+//! What an object asks for, by its METHOD (RFC 5546 1.4), and to whom it goes.
+ghost use Rattle.std.specs.Prelude.{◌≡◌, option_map};
+ghost use Rattle.profile.specs.events.Messages.{is_of_attendee, is_to_rooms, is_word_of, method_named, method_word};
 ghost use Rattle.profile.specs.rooms.Messages.{is_add, is_cancel};
-ghost use Rattle.cal_events.specs.Component.{method_read, method_said};
+ghost use Rattle.cal_events.specs.Component.{method_said};
 
 /// What an object asks for.
 #[derive(Clone, Copy, PartialEq, Eq)]
@@ -22,7 +21,52 @@ pub enum Method {
     Refresh,
 }
 
+/// Those that a word names.
+const NAMED: [Method; 5] = [
+    Method::Request,
+    Method::Add,
+    Method::Cancel,
+    Method::Reply,
+    Method::Refresh,
+];
+
 impl Method {
+    /// The word of METHOD, None of a store.
+    pub fn word(self) -> Option<&'static str>
+        ensures { option_map (λ word. word.now) result ≡ method_word (method_said self) }
+    {
+        match self {
+            Method::Store => None,
+            Method::Request => Some("REQUEST"),
+            Method::Add => Some("ADD"),
+            Method::Cancel => Some("CANCEL"),
+            Method::Reply => Some("REPLY"),
+            Method::Refresh => Some("REFRESH"),
+        }
+    }
+
+    /// The one that a word names, caseless; None where it names none that is taken here.
+    pub fn named(word: &str) -> Option<Method>
+        ensures { option_map method_said result ≡ method_named word.now }
+    {
+        for method in NAMED {
+            if method.is_word(word) {
+                return Some(method);
+            }
+        }
+        None
+    }
+
+    /// Whether a word names it.
+    fn is_word(self, word: &str) -> bool
+        ensures { result ≡ is_word_of word.now (method_said self) }
+    {
+        match self.word() {
+            Some(own) => word.eq_ignore_ascii_case(own),
+            None => false,
+        }
+    }
+
     /// Whether it is ADD.
     pub fn is_add(self) -> bool
         ensures { result ≡ is_add (method_said self) }
@@ -50,28 +94,4 @@ impl Method {
     {
         matches!(self, Method::Reply | Method::Refresh)
     }
-}
-
-/// Whether each VEVENT of an object is an instance that is added to a meeting. None is an object whose METHOD is ignored.
-pub(crate) fn adds_instances(method: Option<Method>) -> bool
-    ensures { result ≡ adds_instances (method_read method) }
-{
-    matches!(method, Some(Method::Add))
-}
-
-/// Whether DTSTART may be missing: who cancels, answers or asks for a meeting need not say when it is.
-pub(crate) fn may_lack_start(method: Option<Method>) -> bool
-    ensures { result ≡ may_lack_start (method_read method) }
-{
-    matches!(
-        method,
-        Some(Method::Cancel | Method::Reply | Method::Refresh)
-    )
-}
-
-/// Whether only a fixed time can name an instance: in what is stored, and in what is answered to it.
-pub(crate) fn names_by_fixed(method: Option<Method>) -> bool
-    ensures { result ≡ names_by_fixed (method_read method) }
-{
-    matches!(method, Some(Method::Store | Method::Reply))
 }

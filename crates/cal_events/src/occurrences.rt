@@ -9,13 +9,17 @@ ghost use Rattle.profile.specs.text.Trees.{Tree};
 ghost use Rattle.profile.specs.events.Properties.{is_fixed, is_of, Says};
 ghost use Rattle.profile.specs.events.ZonedTimes.{ZonedTextFault};
 ghost use Rattle.profile.specs.events.Occurrences.{ListedTime, IsRecurrenceLine, is_period, entries_of, entries_named, Lists, IsInside, EntriesFault, OccurrenceFault, IsFixedWhere, recurs_as_instance};
-ghost use Rattle.profile.specs.events.EventComponents.{instants_of};
+ghost use Rattle.profile.specs.events.EventComponents.{instants_of, property_name, EventComponentFault};
 ghost use Rattle.cal_events.specs.Times.{form_of, none_written, time_of, written_of};
+ghost use Rattle.cal_events.specs.Component.{method_read};
+ghost use Rattle.cal_events.specs.Property.{property_said};
 ghost use Rattle.cal_events.specs.Zones.{object_of, AreRead};
 ghost use Rattle.cal_events.specs.Occurrences.{name_of, time_said, SaysSo, IsRecurrenceSaid, AreListed};
 
 use crate::event_times::is_in_dates;
-use crate::properties::optional;
+use crate::method::Method;
+use crate::properties::{has, line_of};
+use crate::property::Property;
 use crate::time::Time;
 use crate::when::{Form, When, is_in_zone};
 use crate::zones::ZonesOfObject;
@@ -36,12 +40,12 @@ pub(crate) enum Listing {
 }
 
 impl Listing {
-    fn name(self) -> &'static str
-        ensures { result.now ≡ name_of self }
+    fn property(self) -> Property
+        ensures { property_name (property_said result) ≡ name_of self }
     {
         match self {
-            Listing::Additions => "RDATE",
-            Listing::Exceptions => "EXDATE",
+            Listing::Additions => Property::Rdate,
+            Listing::Exceptions => Property::Exdate,
         }
     }
 
@@ -132,12 +136,13 @@ impl SaidInstant {
     pub(crate) fn read_recurrence(
         zones: &ZonesOfObject<'_, '_>,
         properties: &Properties<'_>,
+        method: Option<Method>,
     ) -> Result<Option<SaidInstant>, Refusal>
         requires zones { AreRead zones.now }
         ensures said { IfOk result (IsRecurrenceSaid (object_of zones.now) properties.now) }
-        ensures fault { (added fixed : Bool) → IfErr result (λ e. OccurrenceFault added fixed (object_of zones.now) properties.now e.number) }
+        ensures fault { IfErr result (λ e. EventComponentFault (object_of zones.now) (method_read method) properties.now e.number) }
     {
-        let Some(line) = optional(properties, "RECURRENCE-ID")? else {
+        let Some(line) = line_of(properties, Property::RecurrenceId, method)? else {
             return Ok(None);
         };
         if line.param("RANGE").is_some() {
@@ -182,38 +187,27 @@ pub(crate) fn judge_recurrence(said: Option<SaidInstant>) -> Result<Option<Time>
     }
 }
 
-/// Refuses RRULE or RDATE in a VEVENT that is a single instance, by its RECURRENCE-ID or as one that is added: an instance doesn't recur.
+/// Refuses RRULE or RDATE where METHOD bars them, and in a VEVENT that is a single instance by its RECURRENCE-ID: an instance doesn't recur.
 /// Refused: 67.
 pub(crate) fn refuse_recurring_instance(
     properties: &Properties<'_>,
-    added: bool,
+    barred: bool,
 ) -> Result<(), Refusal>
-    ensures alone { OnOk result (recurs_as_instance added properties.now ≡ false) }
-    ensures recurs { OnErr result (recurs_as_instance added properties.now ≡ true) }
+    ensures alone { OnOk result (recurs_as_instance barred properties.now ≡ false) }
+    ensures recurs { OnErr result (recurs_as_instance barred properties.now ≡ true) }
     ensures number { IfErr result (λ e. e.number ≡ 67) }
 {
-    if (added || has_recurrence(properties)) && recurs(properties) {
+    if (barred || has(properties, Property::RecurrenceId)) && recurs(properties) {
         return Err(Refusal::RECURRING_INSTANCE);
     }
     Ok(())
-}
-
-fn has_recurrence(properties: &Properties<'_>) -> bool
-    ensures { result ≡ list_any (is_of (codes "RECURRENCE-ID")) properties.now }
-{
-    for line in properties.lines() {
-        if line.is_named("RECURRENCE-ID") {
-            return true;
-        }
-    }
-    false
 }
 
 fn recurs(properties: &Properties<'_>) -> bool
     ensures { result ≡ list_any (λ line. is_of (codes "RRULE") line || is_of (codes "RDATE") line) properties.now }
 {
     for line in properties.lines() {
-        if line.is_named("RRULE") || line.is_named("RDATE") {
+        if Property::Rrule.names(*line) || Property::Rdate.names(*line) {
             return true;
         }
     }
@@ -246,8 +240,9 @@ impl SaidInstants {
             times: Vec::new(alloc),
             in_dates: true,
         };
+        let property = listing.property();
         for line in properties.lines() {
-            if line.is_named(listing.name()) {
+            if property.names(*line) {
                 said.add_line(*line, zones, listing)?;
             }
         }

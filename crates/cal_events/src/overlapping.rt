@@ -46,8 +46,8 @@ fn longest(event: &Event) -> i64
     ensures range { (pos 0 ≤ℤ result) × (result <ℤ pos (2 ^ 50)) }
 {
     let of_overrides = longest_of(event.overrides.as_slice());
-    match &event.master {
-        Some(master) => master.times.width().max(of_overrides),
+    match &event.recurrence {
+        Some(recurrence) => recurrence.times.width().max(of_overrides),
         None => of_overrides,
     }
 }

@@ -1,6 +1,6 @@
 //! Where the overrides of an event are among its instances, by start and then by slot, so that one is looked for by binary search.
 
-ghost use Rattle.std.specs.Prelude.{◌≡◌, None, IfOk, IfSome, IfNone};
+ghost use Rattle.std.specs.Prelude.{◌≡◌, [], None, IfOk, IfSome, IfNone};
 ghost use Rattle.cal_events.specs.Instances.{IsAtPlace, IsSoonest};
 
 use crate::component::EventComponent;
@@ -94,6 +94,15 @@ impl Places {
         }
         sorted.sort_unstable();
         Ok(Places { sorted })
+    }
+
+    /// None.
+    pub(crate) fn none(alloc: Global) -> Places
+        ensures { ArePlaces [] result }
+    {
+        Places {
+            sorted: Vec::new(alloc),
+        }
     }
 
     /// The first that is to come.

@@ -1,41 +1,44 @@
-//! The properties of one VEVENT by their names (RFC 5545 3.6.1, 3.8).
-ghost use Rattle.std.specs.Prelude.{◌≡◌, ◌⊎◌, Some, option_map, IfOk, IfErr};
+//! The lines of the properties of one VEVENT (RFC 5545 3.6.1, 3.8).
+ghost use Rattle.std.specs.Prelude.{◌≡◌, true, option_map, is_some, IfOk, IfErr, IsTrue};
 ghost use Rattle.std.specs.List.{find, list_any};
 ghost use Rattle.ical_lines.specs.Text.{line_text};
-ghost use Rattle.profile.specs.events.Properties.{is_of, IsMissing, OccursAtMostOnce, OccursMoreThanOnce};
+ghost use Rattle.profile.specs.faults.Faults.{is_event_fault};
+ghost use Rattle.profile.specs.events.EventComponents.{is_once, occurs_once, presence, property_name, PresenceFault};
+ghost use Rattle.profile.specs.events.Properties.{is_of, OccursAtMostOnce};
+ghost use Rattle.cal_events.specs.Component.{method_read};
+ghost use Rattle.cal_events.specs.Property.{property_said};
 
+use crate::method::Method;
+use crate::property::Property;
 use ical_lines::{Line, Refusal};
 use ical_tree::Properties;
 
-/// The line of a property that may occur once, None where there is none.
-/// Refused: 61 where it occurs twice.
-pub(crate) fn optional<'a>(
+/// The line of a property that occurs at most once; None where it is missing, and this METHOD lets it be.
+/// Refused: 61 where it occurs twice, and where it is missing as by `Property::missing`.
+pub(crate) fn line_of<'a>(
     properties: &Properties<'a>,
-    name: &str,
+    property: Property,
+    method: Option<Method>,
 ) -> Result<Option<Line<'a>>, Refusal>
-    ensures found { IfOk result (λ line. OccursAtMostOnce name.now properties.now (option_map line_text line)) }
-    ensures refuses { IfErr result (λ e. e.number ≡ 61) }
-    ensures twice { IfErr result (λ _. OccursMoreThanOnce name.now properties.now) }
+    requires once { occurs_once (property_said property) ≡ true }
+    ensures found { IfOk result (λ line. OccursAtMostOnce (property_name (property_said property)) properties.now (option_map line_text line)) }
+    ensures there { IfOk result (λ line. is_once (presence (property_said property) (method_read method)) ≡ true → is_some line ≡ true) }
+    ensures refuses { IfErr result (λ e. IsTrue (is_event_fault e.number)) }
+    ensures fault { IfErr result (λ e. PresenceFault (method_read method) properties.now e.number) }
 {
-    properties.optional(name, Refusal::BAD_PROPERTY)
-}
-
-/// The line of a property that occurs exactly once.
-/// Refused: 61 where it is missing or occurs twice.
-pub(crate) fn required<'a>(properties: &Properties<'a>, name: &str) -> Result<Line<'a>, Refusal>
-    ensures found { IfOk result (λ line. OccursAtMostOnce name.now properties.now (Some (line_text line))) }
-    ensures refuses { IfErr result (λ e. e.number ≡ 61) }
-    ensures faulty { IfErr result (λ _. IsMissing name.now properties.now ⊎ OccursMoreThanOnce name.now properties.now) }
-{
-    properties.required(name, Refusal::BAD_PROPERTY)
+    match properties.optional(property.name(), Refusal::BAD_PROPERTY)? {
+        Some(line) => Ok(Some(line)),
+        None if property.presence(method).is_once() => Err(property.missing()),
+        None => Ok(None),
+    }
 }
 
 /// The first line of a property, None where there is none.
-pub(crate) fn first_named<'a>(properties: &Properties<'a>, name: &str) -> Option<Line<'a>>
-    ensures { option_map line_text result ≡ find (is_of name.now) properties.now }
+pub(crate) fn first_named<'a>(properties: &Properties<'a>, property: Property) -> Option<Line<'a>>
+    ensures { option_map line_text result ≡ find (is_of (property_name (property_said property))) properties.now }
 {
     for line in properties.lines() {
-        if line.is_named(name) {
+        if property.names(*line) {
             return Some(*line);
         }
     }
@@ -43,11 +46,11 @@ pub(crate) fn first_named<'a>(properties: &Properties<'a>, name: &str) -> Option
 }
 
 /// Whether there is a line of a property.
-pub(crate) fn has(properties: &Properties<'_>, name: &str) -> bool
-    ensures { result ≡ list_any (is_of name.now) properties.now }
+pub(crate) fn has(properties: &Properties<'_>, property: Property) -> bool
+    ensures { result ≡ list_any (is_of (property_name (property_said property))) properties.now }
 {
     for line in properties.lines() {
-        if line.is_named(name) {
+        if property.names(*line) {
             return true;
         }
     }

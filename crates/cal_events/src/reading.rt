@@ -129,7 +129,7 @@ pub(crate) fn read_event(
     EventComponent::read(alloc, zones, &properties, method)
 }
 
-/// The same in a room of this zone.
+/// What a VEVENT says in a room of this zone.
 pub(crate) fn read_placed(
     alloc: Global,
     zones: &ZonesOfObject<'_, '_>,

@@ -8,26 +8,27 @@ ghost use Rattle.profile.specs.events.ZonedTimes.{clock_of};
 ghost use Rattle.cal_zones.specs.Kinds.{zone_of};
 ghost use Rattle.cal_rules.specs.LastDays.{NoDayTo};
 ghost use Rattle.cal_events.specs.Clocks.{IsAscending};
-ghost use Rattle.cal_events.specs.Component.{component_of, times_of, zone_said};
+ghost use Rattle.cal_events.specs.Component.{times_of, zone_said};
+ghost use Rattle.cal_events.specs.Recurrence.{recurring};
 ghost use Rattle.cal_events.specs.LastStarts.{HasNoStart, IsLastStart, IsLastStartTo};
 ghost use Rattle.cal_events.specs.Past.{ArePast, IsFirstPast, IsLeastPastMaster, IsPastException, IsPastRule};
 
-use crate::component::EventComponent;
 use crate::event_times::{EventTimes, FIRST_SECOND, resolve};
 use crate::instance::HORIZON;
+use crate::recurrence::Recurrence;
 use cal_days::{Day, LAST_INDEX};
 use cal_rules::Rule;
 use cal_zones::Zone;
 use ical_values::LocalTime;
 
-/// The least instant after all that a master by its rule doesn't do again.
-pub(crate) fn regular_from(master: &EventComponent) -> i64
-    ensures { IsLeastPastMaster (component_of master.now) result }
+/// The least instant after all that a meeting by its rule doesn't do again.
+pub(crate) fn regular_from(recurrence: &Recurrence) -> i64
+    ensures { IsLeastPastMaster (recurring recurrence.now) result }
 {
-    let after_start = master.times.instant.instant() + 1;
-    let after_onsets = past_onsets(&master.times.start.clock(), after_start);
-    let after_exceptions = past_exceptions(&master.exceptions, after_onsets);
-    past_rule(&master.times, &master.rule, after_exceptions)
+    let after_start = recurrence.times.instant.instant() + 1;
+    let after_onsets = past_onsets(&recurrence.times.start.clock(), after_start);
+    let after_exceptions = past_exceptions(recurrence.exceptions.sorted(), after_onsets);
+    past_rule(&recurrence.times, &recurrence.rule, after_exceptions)
 }
 
 /// The least instant from one on that is more than half a day past the first onset of each observance of a zone.

@@ -58,7 +58,7 @@ impl<'a> RuleDays<'a> {
         Some(day)
     }
 
-    /// The same, where it isn't counted yet from which day on the others are.
+    /// Takes the first, where it isn't counted yet from which day on the others are.
     fn take(&mut self) -> Option<Day>
         ensures gives { YieldsFirstBy day_index days_to_come self.old result self.new }
         ensures first { self.new.first ≡ None }

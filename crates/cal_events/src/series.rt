@@ -1,36 +1,35 @@
 //! A series: a master by its rule alone (RFC 5545 3.8.5.3). What RDATE adds belongs to none.
-ghost use Rattle.std.specs.Prelude.{◌≡◌, ◌≢◌, ◌↔◌, ◌^◌, ◌≤◌, ◌≤ℤ◌, ◌<ℤ◌, ℕ, pos, true, false, [], Some, is_some, map, option_map, filter, AllPairs, IfOk, IfSome, MatchOption};
+ghost use Rattle.std.specs.Prelude.{◌≡◌, ◌↔◌, ◌^◌, ◌≤ℤ◌, ◌<ℤ◌, pos, true, false, Contains, Some, is_some, map, option_map, filter, IfOk, MatchOption};
+ghost use Rattle.ical_values.specs.Octets.{text_octets};
 ghost use Rattle.profile.specs.checker.Instances.{Instance as SaidInstance};
-ghost use Rattle.profile.specs.events.Events.{is_master};
 ghost use Rattle.profile.specs.events.Starts.{IsInstance, IsFirstOverlap, IsFirstSharer, IsWidth};
 ghost use Rattle.profile.specs.events.Spans.{IsLeastPast, IsWidthOf, HasNoPeriodOf, IsLeastPeriodOf, IsSaidSeries};
-ghost use Rattle.profile.specs.events.Confirmed.{by_its_rule, has_series};
+ghost use Rattle.profile.specs.events.Confirmed.{IsByItsRule, has_series};
 ghost use Rattle.profile.specs.events.EventComponents.{EventComponent as Said, meeting_said};
 ghost use Rattle.profile.specs.events.ZonedTimes.{clock_of};
 ghost use Rattle.cal_zones.specs.Kinds.{zone_of};
-ghost use Rattle.cal_events.specs.Clocks.{HasGoodClock};
+ghost use Rattle.cal_events.specs.Clocks.{IsSteady};
 ghost use Rattle.cal_events.specs.Calendar.{key_of, owned_key_of, instance_of};
-ghost use Rattle.cal_events.specs.Draft.{IsSaid, AreInOrder};
-ghost use Rattle.cal_events.specs.Component.{component_of};
+ghost use Rattle.cal_events.specs.Draft.{AreInOrder};
+ghost use Rattle.cal_events.specs.Component.{component_of, times_of, zone_said};
 ghost use Rattle.cal_events.specs.Left.{IsLeft};
 ghost use Rattle.cal_events.specs.Past.{IsKeptPast};
-ghost use Rattle.cal_events.specs.Overlapping.{HaveOneEnd, AreDated};
 ghost use Rattle.cal_events.specs.Event.{said_meeting};
-ghost use Rattle.cal_events.specs.Ruled.{IsRuled, AreSlotsOf, IsByItsRule, cmp_to, is_key_of, ruled_without};
+ghost use Rattle.cal_events.specs.Ruled.{IsRuled, IsOfRule, IsRuledBeside, AreSlotsOf, cmp_to, is_key_of};
+ghost use Rattle.cal_events.specs.Said.{AreSaidWith};
 
 use crate::component::EventComponent;
 use crate::draft::is_series;
-use crate::entries::organiser_of;
 use crate::event::Event;
+use crate::event_times::EventTimes;
 use crate::instance::{Instance, InstanceKey, OwnedKey};
 use crate::instances::Instances;
-use crate::occurrences::WrittenTimes;
+use crate::instants::copied;
+use crate::recurrence::{EventName, Recurrence};
 use crate::regular::regular_from;
-use crate::single_starts::copied;
 use crate::sweep::Span;
 use cal_rules::{Rule, common_multiple, shifts_are_multiples};
 use cal_zones::Zone;
-use ical_values::Text;
 use std::alloc::{AllocError, Global};
 use std::cmp::Ordering;
 
@@ -48,6 +47,7 @@ pub struct Series {
 
 impl Series {
     ghost use Rattle.cal_events.specs.Series.{series_said, IsMasterOf, IsSeriesWithout};
+    ghost use Rattle.cal_events.specs.Recurrence.{name_of, organiser_of, master_of};
     ghost use Rattle.cal_events.specs.Seconds.{IsSecondOf};
 
     /// The series of a master, where overrides replace these instances, in order. It fails only when out of memory.
@@ -56,48 +56,78 @@ impl Series {
         master: EventComponent,
         overrides: &[InstanceKey<'_>],
     ) -> Result<Series, AllocError>
-        requires said { IsSaid (component_of master) }
-        requires master { is_master (component_of master) ≡ true }
         requires rule { is_some master.rule ≡ true }
         requires sorted { AreInOrder overrides.now }
-        requires differ { AllPairs ◌≢◌ (map key_of overrides.now) }
-        ensures { IfOk result (λ series. IsByItsRule (map key_of overrides.now) (component_of master) (series_said series)) }
+        ensures { IfOk result (λ series. IsRuledBeside (map key_of overrides.now) (component_of master) (series_said series)) }
     {
-        let replaced = replaced(alloc, &master, overrides)?;
-        let master = by_its_rule(alloc, master, &replaced)?;
-        Series::of_ruled(alloc, master)
+        let mut exceptions = replaced(alloc, &master, overrides)?;
+        exceptions.extend_from_slice(&master.exceptions)?;
+        let EventComponent {
+            uid,
+            organiser,
+            times,
+            rule,
+            ..
+        } = master;
+        Series::by_rule(alloc, EventName { organiser, uid }, times, rule, exceptions)
     }
 
-    /// That of a master by itself, without the instances at these starts. It fails only when out of memory.
-    fn of_copy(alloc: Global, master: &EventComponent, starts: &[i64]) -> Result<Series, AllocError>
-        requires clock { HasGoodClock (component_of master.now) }
-        requires ends { HaveOneEnd (record { master = Some (ruled_without (component_of master.now) starts.now); overrides = [] }) }
-        requires rule { is_some master.now.rule ≡ true }
-        ensures { IfOk result (λ series. series_said series ≡ record { master = Some (ruled_without (component_of master.now) starts.now); overrides = [] }) }
+    /// The series of a master by itself, whatever other VEVENTs are for. It fails only when out of memory.
+    fn by_itself(alloc: Global, master: &EventComponent) -> Result<Series, AllocError>
+        requires { is_some master.now.rule ≡ true }
+        ensures { IfOk result (λ series. IsByItsRule (component_of master.now) (Contains master.now.exceptions.items) (series_said series)) }
     {
-        let master = ruled_copy(alloc, master, starts)?;
-        Series::of_ruled(alloc, master)
+        let name = master.name()?;
+        let exceptions = copied(alloc, &master.exceptions)?;
+        let rule = master.rule.clone()?;
+        Series::by_rule(alloc, name, master.times, rule, exceptions)
     }
 
-    /// That of a master by its rule alone. It fails only when out of memory.
-    fn of_ruled(alloc: Global, master: EventComponent) -> Result<Series, AllocError>
-        requires clock { HasGoodClock (component_of master) }
-        requires ends { HaveOneEnd (record { master = Some (component_of master); overrides = [] }) }
-        requires dated { AreDated (record { master = Some (component_of master); overrides = [] }) }
-        requires rule { is_some master.rule ≡ true }
-        requires none_added { master.additions.items ≡ [] }
-        ensures { IfOk result (λ series. series_said series ≡ record { master = Some (component_of master); overrides = [] }) }
+    /// The series of that name that starts and lasts so, by a rule, except at these instants. It fails only when out of memory.
+    fn by_rule(
+        alloc: Global,
+        name: EventName,
+        times: EventTimes,
+        rule: Option<Rule>,
+        exceptions: Vec<i64>,
+    ) -> Result<Series, AllocError>
+        requires steady { IsSteady (clock_of (zone_said times.start)) }
+        requires rule { is_some rule ≡ true }
+        requires said { ∥ AreSaidWith (times_of times) rule ∥₁ }
+        ensures { (master : Said) → IsOfRule (organiser_of name) (text_octets name.uid) times rule master
+            → IfOk result (λ series. IsByItsRule master (Contains exceptions.items) (series_said series)) }
     {
-        let from = regular_from(&master);
-        let event = Event::of_master(alloc, master)?;
+        let recurrence = Recurrence::of(alloc, times, rule, &[], exceptions)?;
+        let from = regular_from(&recurrence);
+        let event = Event::recurring(alloc, name, recurrence);
         Ok(Series { event, from })
+    }
+
+    /// The series of its master by the rule, except at these instants alone. It fails only when out of memory.
+    fn except(&self, alloc: Global, exceptions: Vec<i64>) -> Result<Series, AllocError>
+        ensures { (master : Said) → IsMasterOf (series_said self.now) master → IfOk result (λ series. IsByItsRule master (Contains exceptions.items) (series_said series)) }
+    {
+        let recurrence = self.recurrence();
+        let name = self.event.name.copy()?;
+        let rule = recurrence.rule.clone()?;
+        Series::by_rule(alloc, name, recurrence.times, rule, exceptions)
+    }
+
+    /// A copy of the series, with the same starts and exceptions. It fails only when out of memory.
+    pub fn copy(&self, alloc: Global) -> Result<Series, AllocError>
+        ensures { IfOk result (λ copy. series_said copy ≡ series_said self.now) }
+    {
+        let exceptions = copied(alloc, self.recurrence().exceptions.sorted())?;
+        self.except(alloc, exceptions)
     }
 
     /// The series without the instances at these starts, as if EXDATE named them. In time n log n. It fails only when out of memory.
     pub fn without(&self, alloc: Global, starts: &[i64]) -> Result<Series, AllocError>
         ensures { IfOk result (λ left. IsSeriesWithout (series_said self.now) starts.now (series_said left)) }
     {
-        Series::of_copy(alloc, self.master(), starts)
+        let mut exceptions = copied(alloc, self.recurrence().exceptions.sorted())?;
+        exceptions.extend_from_slice(starts)?;
+        self.except(alloc, exceptions)
     }
 
     /// Its starts at an instant or later, in seconds from 1970-01-01T00:00:00Z, with their ends: ascending, each once. Takes no memory, and
@@ -128,7 +158,7 @@ impl Series {
     pub fn rule(&self) -> &Rule
         ensures { (master : Said) → IsMasterOf (series_said self.now) master → master.rule ≡ Some result.now }
     {
-        match &self.master().rule {
+        match &self.recurrence().rule {
             Some(rule) => rule,
             None => unreachable!(),
         }
@@ -138,14 +168,14 @@ impl Series {
     pub fn zone(&self) -> Zone
         ensures { (master : Said) → IsMasterOf (series_said self.now) master → zone_of result ≡ clock_of master.times.zone }
     {
-        self.master().times.start.clock()
+        self.recurrence().times.start.clock()
     }
 
     /// The second of its day at which it starts, by the clocks of its zone.
     pub fn second(&self) -> u32
         ensures { IsSecondOf (series_said self.now) result }
     {
-        let (_, second) = self.master().times.start.local().day_and_second();
+        let (_, second) = self.recurrence().times.start.local().day_and_second();
         second
     }
 
@@ -156,7 +186,7 @@ impl Series {
         ensures of { IsWidthOf (series_said self.now) result }
         ensures range { (pos 0 ≤ℤ result) × (result <ℤ pos (2 ^ 50)) }
     {
-        self.master().times.width()
+        self.recurrence().times.width()
     }
 
     /// The least instant after all that it doesn't do again: after DTSTART, its exceptions, and the first onsets of its zone by half a day; and
@@ -186,20 +216,16 @@ impl Series {
     pub fn key(&self, alloc: Global, start: i64) -> Result<OwnedKey, AllocError>
         ensures { IfOk result (λ key. (b : SaidInstance) → IsInstance (series_said self.now) b → b.start ≡ start → owned_key_of key ≡ b.key) }
     {
-        let master = self.master();
-        Ok(OwnedKey {
-            organiser: organiser_of(alloc, master)?,
-            uid: master.uid.clone()?,
-            slot: start,
-        })
+        self.event.name.owned_key(alloc, start)
     }
 
-    fn master(&self) -> &EventComponent
-        ensures master { IsMasterOf (series_said self.now) (component_of result.now) }
+    fn recurrence(&self) -> &Recurrence
+        ensures is { self.now.event.recurrence ≡ Some result.now }
+        ensures master { IsMasterOf (series_said self.now) (master_of self.now.event.name result.now) }
         ensures ruled { is_some result.now.rule ≡ true }
     {
-        match &self.event.master {
-            Some(master) => master,
+        match &self.event.recurrence {
+            Some(recurrence) => recurrence,
             None => unreachable!(),
         }
     }
@@ -216,63 +242,17 @@ impl EventComponent {
         if !is_series(self) {
             return Ok(None);
         }
-        Ok(Some(Series::of_copy(alloc, self, &[])?))
+        Ok(Some(Series::by_itself(alloc, self)?))
     }
 }
 
-/// A copy of a master by its rule alone, without these starts. Its SUMMARY, who attends and how its times are written aren't kept. It fails only when out of memory.
-fn ruled_copy(
-    alloc: Global,
-    master: &EventComponent,
-    starts: &[i64],
-) -> Result<EventComponent, AllocError>
-    ensures { IfOk result (λ copy. component_of copy ≡ ruled_without (component_of master.now) starts.now) }
-{
-    let uid = master.uid.clone()?;
-    let organiser = master.organiser.clone()?;
-    let rule = master.rule.clone()?;
-    let mut exceptions = copied(alloc, &master.exceptions)?;
-    exceptions.extend_from_slice(starts)?;
-    let summary = Text::of(alloc, "")?;
-    Ok(EventComponent {
-        uid,
-        organiser,
-        stamp: master.stamp,
-        sequence: master.sequence,
-        cancelled: master.cancelled,
-        recurrence: master.recurrence,
-        times: master.times,
-        rule,
-        additions: Vec::new(alloc),
-        exceptions,
-        written: WrittenTimes::new(alloc),
-        summary,
-        attendees: Vec::new(alloc),
-    })
-}
-
-/// A master without what RDATE adds, and without what overrides replace. It fails only when out of memory.
-fn by_its_rule(
-    alloc: Global,
-    master: EventComponent,
-    replaced: &[i64],
-) -> Result<EventComponent, AllocError>
-    ensures { IfOk result (λ ruled. component_of ruled ≡ by_its_rule (component_of master) replaced.now) }
-{
-    let mut master = master;
-    master.additions = Vec::new(alloc);
-    master.exceptions.extend_from_slice(replaced)?;
-    Ok(master)
-}
-
-/// The instants that overrides of a master's meeting replace, ascending. It fails only when out of memory.
+/// The instants that overrides of a master's meeting replace. It fails only when out of memory.
 fn replaced(
     alloc: Global,
     master: &EventComponent,
     overrides: &[InstanceKey<'_>],
 ) -> Result<Vec<i64>, AllocError>
-    requires sorted { AreInOrder overrides.now }
-    requires differ { AllPairs ◌≢◌ (map key_of overrides.now) }
+    requires { AreInOrder overrides.now }
     ensures { IfOk result (λ slots. AreSlotsOf (map key_of overrides.now) (meeting_said (component_of master.now)) slots.items) }
 {
     let mut slots = Vec::new(alloc);

@@ -1,6 +1,5 @@
 //! The starts of a master that belong to no series (RFC 5545 3.8.5.2, 3.8.5.1).
 ghost use Rattle.std.specs.Prelude.{◌≡◌, ◌↔◌, ℤ, true, is_some, Contains, IsTrue, IfOk};
-ghost use Rattle.std.specs.List.Sorted.{IsPermutation};
 ghost use Rattle.cal_events.specs.Clocks.{HasGoodClock};
 ghost use Rattle.cal_events.specs.Component.{component_of};
 ghost use Rattle.cal_events.specs.MeetingComponents.{IsInEventDates};
@@ -8,7 +7,7 @@ ghost use Rattle.cal_events.specs.SingleStarts.{AreSingleStarts, IsCandidate, Is
 
 use crate::component::EventComponent;
 use crate::instances::{days_of, is_start, start_on};
-use crate::instants::Instants;
+use crate::instants::{Instants, copied};
 use std::alloc::{AllocError, Global};
 
 /// The starts of a master, by itself, that no rule gives: DTSTART where there is no rule, and RDATEs; ascending, each once. What EXDATE names
@@ -39,14 +38,6 @@ fn candidates(alloc: Global, master: &EventComponent) -> Result<Instants, AllocE
     Ok(Instants::of(instants))
 }
 
-pub(crate) fn copied(alloc: Global, instants: &[i64]) -> Result<Vec<i64>, AllocError>
-    ensures { IfOk result (λ copy. copy.items ≡ instants.now) }
-{
-    let mut copy = Vec::new(alloc);
-    copy.extend_from_slice(instants)?;
-    Ok(copy)
-}
-
 /// Whether the last of the starts is this one.
 fn is_last(starts: &[i64], instant: i64) -> bool
     ensures { IsTrue result ↔ IsLast starts.now instant }
@@ -58,7 +49,7 @@ fn is_last(starts: &[i64], instant: i64) -> bool
 /// Whether a candidate is a start that no rule gives.
 fn is_single(master: &EventComponent, hidden: &Instants, instant: i64) -> bool
     requires clock { is_some master.now.rule ≡ true → HasGoodClock (component_of master.now) }
-    requires hidden { IsPermutation master.now.exceptions.items hidden.now }
+    requires hidden { (t : ℤ) → Contains hidden.now t ↔ Contains master.now.exceptions.items t }
     ensures { IsTrue result ↔ IsLeftOver (component_of master.now) instant }
 {
     is_start(instant, hidden) && !is_on_rule(master, instant)
@@ -75,7 +66,7 @@ fn is_on_rule(master: &EventComponent, instant: i64) -> bool
         return false;
     }
     let (_, second) = master.times.start.local().day_and_second();
-    let mut days = days_of(master, &[], instant);
+    let mut days = days_of(&master.times, &master.rule, instant);
     while let Some(day) = days.next() {
         let start = start_on(&master.times.start, day, second);
         if start >= instant {

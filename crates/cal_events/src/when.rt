@@ -78,7 +78,7 @@ impl When {
         When::read_text(line, line.value(), zones)
     }
 
-    /// The same of one text of the line's value, as a time of a list has VALUE and TZID of its line.
+    /// What one text of the line's value says, as a time of a list has VALUE and TZID of its line.
     pub(crate) fn read_text(
         line: Line<'_>,
         text: &str,
@@ -139,7 +139,7 @@ impl When {
         }
     }
 
-    /// The same in a room of this zone, None where it goes by UTC: there its clocks show a time that isn't fixed.
+    /// The time as a room of this zone has it, None where the room goes by UTC: there its clocks show a time that isn't fixed.
     pub(crate) fn in_room(self, room: Option<Zone>) -> When
         ensures form { form_said result ≡ form_said self }
         ensures local { local_said result ≡ local_said self }

@@ -9,7 +9,7 @@ ghost use Rattle.profile.specs.events.Spans.{IsSaidSeries, IsWidthOf};
 ghost use Rattle.profile.specs.events.Starts.{IsInstance, AreInstancesFrom};
 ghost use Rattle.cal_events.specs.Whole.{GivesAll};
 ghost use Rattle.cal_events.specs.Left.{IsLeft};
-ghost use Rattle.cal_events.specs.Event.{said_meeting};
+ghost use Rattle.cal_events.specs.Event.{AreAlike, said_meeting};
 ghost use Rattle.cal_events.specs.Series.{series_said, AreKnownByStart};
 ghost use Rattle.cal_events.specs.declared.instances.Instances.{Instances};
 ghost use Rattle.cal_events.specs.declared.series.Series.{Series};
@@ -57,10 +57,10 @@ pub fn listed_series()
 /// Of an event that octets spell in a room of a zone that words mean, `Event::instances` gives all instances that start at an instant or later, by start and then by slot, each
 /// once, if it is taken to its end.
 pub fn all_instances()
-    ensures { (words : List ℕ) (room : Option zones.Zone) (octets : List ℕ) (from : ℤ) (instances : Instances) (all : List Instance)
-        → IsRoomZone words room → SpellsEvent room octets (said_meeting instances.event.now)
+    ensures { (words : List ℕ) (room : Option zones.Zone) (octets : List ℕ) (from : ℤ) (meeting : SaidEvent) (instances : Instances) (all : List Instance)
+        → IsRoomZone words room → SpellsEvent room octets meeting → AreAlike (said_meeting instances.event.now) meeting
         → ((b : Instance) → IsLeft instances b ↔ (IsInstance (said_meeting instances.event.now) b × (from ≤ℤ b.start)))
-        → GivesAll instances all → AreInstancesFrom (said_meeting instances.event.now) from all }
+        → GivesAll instances all → AreInstancesFrom meeting from all }
 {
     one_instance();
 }

@@ -12,15 +12,14 @@ use Rattle.profile.specs.events.Events.{Event as SaidEvent}
 use Rattle.profile.specs.events.Starts.{IsInstance, EndsAt, IsWidth}
 use Rattle.profile.proofs.SeriesRepeats.{meant, counted_within}
 use Rattle.cal_events.specs.Calendar.{instance_of}
-use Rattle.cal_events.specs.Component.{component_of}
+use Rattle.cal_events.specs.Recurrence.{master_of}
 use Rattle.cal_events.specs.Left.{IsLeft, GivesFirst}
 use Rattle.cal_events.specs.Series.{series_said, IsMasterOf, AreKnownByStart}
 use Rattle.cal_events.specs.declared.instance.Instance.{Instance}
 use Rattle.cal_events.specs.declared.instances.Instances.{Instances}
 use Rattle.cal_events.specs.declared.series.Series.{Series}
-use Rattle.cal_events.proofs.shared_lemmas.DraftKeys.{some_there}
 use Rattle.cal_events.proofs.shared_lemmas.OwnSingles.{at_start}
-use Rattle.cal_events.proofs.shared_lemmas.SeriesLemmas.{alone_said}
+use Rattle.cal_events.proofs.shared_lemmas.SeriesLemmas.{own_master}
 use Rattle.cal_period.specs.Walks.{AreAllLeft, AreLeftFrom}
 use Rattle.cal_period.specs.Onward.{IsFirstStart, HasBegun, MeetFrom, IsEntryBefore}
 use Rattle.cal_period.proofs.Going.{at_first, not_less}
@@ -58,10 +57,10 @@ no_less times n (inr (some, (least, greatest, b, is))) = omega (arith, ints, b.o
 module _ (series : Series) (n : ℤ) (width : (master : Said) → IsMasterOf (series_said series) master → IsWidth master.times n) where
   its_width : (master : Said) × (((b : SaidInstance) → IsInstance (series_said series) b → EndsAt master.times b.start b.end) × IsWidth master.times n)
   its_width =
-      let m = some_there series.event.master series.ruled.0 in
-      let is = alone_said series.event series.ruled.1.1 m.0 m.1 in (
-        component_of m.0,
-        ((λ b h. (at_start (component_of m.0) b (subst (λ (w : SaidEvent). IsInstance w b) is h)).ends), width (component_of m.0) (ap (option_map component_of) m.1)),
+      let m = own_master series.event series.ruled in
+      let master = master_of series.event.name m.0 in (
+        master,
+        ((λ b h. (at_start master b (subst (λ (w : SaidEvent). IsInstance w b) m.2 h)).ends), width master (ap (option_map (master_of series.event.name)) m.1)),
       )
 
   pub series_lasts : (b : SaidInstance) → IsInstance (series_said series) b → b.end ≤ℤ (b.start +ℤ n)

@@ -39,7 +39,7 @@ pub(crate) fn are_locally_apart(a: &Series, b: &Series) -> bool
     are_phases_apart(&Phases::local(a), a.width(), &Phases::local(b), b.width())
 }
 
-/// The same of a series by itself.
+/// Do residues by local times show of a series that no two of its own instances share an instant?
 pub(crate) fn is_locally_apart(a: &Series) -> bool
     ensures { result ≡ true → (m : ℕ) × (0 < m) × IsLocallyApart (series_said a.now) m }
 {

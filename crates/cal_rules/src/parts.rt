@@ -153,7 +153,7 @@ fn put<T: Drop>(field: &mut Option<T>, said: Option<T>) -> Option<Refusal>
     None
 }
 
-/// The same, of a list for which there may be no memory.
+/// Fills a field with a list, for which there may be no memory.
 fn put_list<T: Drop>(
     field: &mut Option<T>,
     said: Result<Option<T>, AllocError>,

@@ -29,7 +29,7 @@ pub fn common_multiple(a: u64, b: u64) -> Option<u64>
     }
 }
 
-/// The same, where multiples of the first number are tried.
+/// The least common multiple, where multiples of the first number are tried.
 fn multiple_of(a: u64, b: u64) -> Option<u64>
     ensures least { MatchOption result (HasNoMultiple a b) (IsLeastMultiple a b) }
     ensures few { IfSome result (λ days. days ≤ most_period) }

@@ -68,7 +68,7 @@ impl RuleText {
         &self.written
     }
 
-    /// The same rule with the month day of DTSTART, where it is a YEARLY one with BYMONTH that names no day (RFC 5545 3.3.10).
+    /// The rule with the month day of DTSTART, where it is a YEARLY one with BYMONTH that names no day (RFC 5545 3.3.10).
     pub fn on_day_of(self, start: Day) -> Result<RuleText, AllocError>
         ensures { IfOk result (λ rule. rule ≡ on_day_of_start (day_index start) self) }
     {

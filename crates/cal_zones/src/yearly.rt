@@ -143,7 +143,7 @@ impl Yearly {
         self.day_in(year + 1)
     }
 
-    /// The same for any later day. The days repeat after 400 years.
+    /// The index of the first from any later day on. The days repeat after 400 years.
     fn first_on(self, n: u64) -> u64
         requires { (366 ≤ n) × (n ≤ 1_000_000_000_000_000) }
         ensures first { IsFirstDay self n result }

@@ -192,7 +192,7 @@ impl Zone {
         self.ends()
     }
 
-    /// The same, with no look at any instant.
+    /// The least and the greatest offset that it names, with no look at any instant.
     pub(crate) fn ends(&self) -> (i32, i32)
         ensures ends { AreEnds (zone_of self.now) result.0 result.1 }
         ensures range { IsOffset result.0 × IsOffset result.1 }
@@ -306,7 +306,7 @@ impl Zone {
         self.last_day_at(second, until)
     }
 
-    /// The same for a second of a day. The offsets decide between the three days that are looked at.
+    /// The last day, for a second of a day. The offsets decide between the three days that are looked at.
     fn last_day_at(&self, second: u32, until: i64) -> Option<Day>
         requires { second < 86_400 }
         ensures { let z = zone_of self.now in

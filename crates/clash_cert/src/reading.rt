@@ -346,7 +346,7 @@ fn span(from: Stamp, days: u64) -> Entry
     ensures value { entry_said result ≡ Span from days }
     ensures entry { IsEntry (entry_said result) }
 {
-    // the contract of `instant` has the range of a stamp, which only the proof needs
+    // Only for the proof: a stamp has a range.
     let _ = from.instant();
     Entry::Span { from, days }
 }

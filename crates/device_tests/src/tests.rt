@@ -175,7 +175,7 @@ fn check<R: AllocGlobal + Abort>(
     check_stream(rt, devices, STREAM, expected, sent)
 }
 
-/// The same of another stream.
+/// Serves a stream, and compares what came of it and what was sent on.
 fn check_stream<R: AllocGlobal + Abort>(
     rt: &R,
     devices: Devices,

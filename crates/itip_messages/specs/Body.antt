@@ -1,6 +1,7 @@
 -- What the octets of a body are.
-use Rattle.std.specs.Prelude.{◌≡◌, ℕ, ◌≤◌, ◌-◌, Bool, ◌&&◌, ◌==◌, nat_lt, get_or, if◌then◌else◌, Contains, List, [], ◌∷◌, ◌++◌, codes, take, drop, length, option_map, unwrap_or, filter, Option, Some, None, ℤ, pos, ◌*ℤ◌, ◌≤ℤ◌}
-use Rattle.std.specs.List.{flat_map, AllZip, position_or_len}
+use Rattle.std.specs.Prelude.{◌≡◌, ℕ, ◌≤◌, Contains, List, [], ◌∷◌, ◌++◌, codes, take, drop, get_or, length, option_map, unwrap_or, filter, Option, Some, None, ℤ, pos, ◌*ℤ◌, ◌≤ℤ◌}
+use Rattle.std.specs.List.{flat_map, AllZip}
+use Rattle.memchr.specs.Find.{matches}
 use Rattle.profile.specs.text.Values.{IsClockSeconds, WritesLocal, WritesStamp}
 use Rattle.profile.specs.events.Properties.{BothOrNeither, Form, Fixed, Floating, WholeDay}
 use Rattle.profile.specs.events.ZonedTimes.{EventTimes, SpellsMidnight}
@@ -69,17 +70,13 @@ AppendsRule form clock rule old new = (lines : List (List ℕ)) × WritesRule fo
 abbrev pub AppendsZone : EventTimes → List ℕ → List ℕ → Type 0
 AppendsZone times old new = (zone : Option (List ℕ)) × BothOrNeither IsZoneRest times.zone zone × (new ≡ old ++ zone_octets zone)
 
--- how many octets come before the first `G`
-abbrev pub before_g : List ℕ → ℕ
-before_g octets = position_or_len (λ octet. octet == 71) octets
+-- the line that begins a VTIMEZONE (RFC 5545 3.6.5)
+abbrev pub zone_line : List ℕ
+zone_line = codes "BEGIN:VTIMEZONE\r\n"
 
--- the first `G` among these is the third octet after a `B`
-abbrev pub begins_zone : List ℕ → Bool
-begins_zone octets = nat_lt (before_g octets) (length octets) && (get_or octets (before_g octets - 2) 0 == 66)
-
--- where that `B` is; their number where there is none
+-- where that line first occurs among octets; their number where it doesn't
 abbrev pub zone_place : List ℕ → ℕ
-zone_place octets = if begins_zone octets then before_g octets - 2 else length octets
+zone_place octets = get_or (matches octets zone_line 0) 0 (length octets)
 
 -- an end of a rule that can be written: a date is at most 9999-12-31
 abbrev pub IsFixedTold : Until → Type 0

@@ -7,9 +7,9 @@ use Rattle.ical_tree.specs.Reading.{IsRefusalOf}
 use Rattle.profile.specs.text.Lines.{is_same_name}
 use Rattle.profile.specs.text.Trees.{Tree}
 use Rattle.profile.specs.events.EventComponents as events
-use Rattle.profile.specs.events.EventComponents.{EventComponent as SaidComponent}
+use Rattle.profile.specs.events.EventComponents.{ATTENDEE, EventComponent as SaidComponent, is_of_one, presence}
 use Rattle.profile.specs.events.Messages as profile
-use Rattle.profile.specs.events.Messages.{SaysMessage, SpellsMessage, MessageTextFault, has_one_attendee, is_method, is_of_attendee, is_to_rooms, method_word}
+use Rattle.profile.specs.events.Messages.{SaysMessage, SpellsMessage, MessageTextFault, has_one_attendee, is_method, is_to_rooms, method_word}
 use Rattle.profile.specs.rooms.Messages.{is_cancel, raised_to}
 use Rattle.profile.specs.rooms.Revisions as revisions
 use Rattle.profile.specs.series.Zones.{Zone}
@@ -59,9 +59,9 @@ IsMethodWord word method = IsWord (method_word (method_said method)) word
 abbrev pub WordFault : List ℕ → ℕ → Type 0
 WordFault word n = (n ≡ 60) × (is_method word ≡ false)
 
--- an attendee speaks, and one of the events doesn't have one attendee
+-- METHOD asks for one attendee, and one of the events doesn't have one
 abbrev pub IsNotOneEach : events.Method → List SaidComponent → ℕ → Type 0
-IsNotOneEach method said n = (n ≡ 64) × (is_of_attendee method ≡ true) × (list_all has_one_attendee said ≡ false)
+IsNotOneEach method said n = (n ≡ 64) × (is_of_one (presence ATTENDEE (Some method)) ≡ true) × (list_all has_one_attendee said ≡ false)
 
 -- ---- its parts for a room
 

@@ -22,25 +22,16 @@ use cal_rules::{Rule, Until};
 use cal_zones::Zone;
 use ical_values::shown::{date_text, stamp_text};
 use ical_values::{Duration, LocalTime, Stamp};
-use memchr::memchr;
+use memchr::memmem;
 use std::alloc::{AllocError, Global};
 
-/// Where the octets of the VTIMEZONE begin in those of a body; the body's length where there is none. No line before them has a `G`, which
-/// is the third octet of `BEGIN`.
+/// Where the octets of the VTIMEZONE begin in those of a body: at the first line that begins one; the body's length where there is none.
 pub fn zone_lines(body: &[u8]) -> usize
     ensures place { result ≡ zone_place body.now }
     ensures inside { result ≤ length body.now }
     ensures cut { (content : Content) (event : SaidComponent) → IsContent content event → body.now ≡ canonical content → IsCutAtZone content result }
 {
-    let Some(third) = memchr(b'G', body) else {
-        return body.len();
-    };
-    let place = third.saturating_sub(2);
-    if body[place] == b'B' {
-        place
-    } else {
-        body.len()
-    }
+    memmem::find(body, b"BEGIN:VTIMEZONE\r\n").unwrap_or(body.len())
 }
 
 /// The body of a VEVENT. It fails only when out of memory.

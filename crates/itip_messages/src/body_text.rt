@@ -74,7 +74,7 @@ fn write_lines(object: &mut ObjectWriter, text: &str) -> Result<(), AllocError>
     Ok(())
 }
 
-/// The same, where DTSTART is in the zone of this number.
+/// Writes the lines where DTSTART is in the zone of this number.
 fn write_in_zone(object: &mut ObjectWriter, text: &str, number: usize) -> Result<(), AllocError>
     ensures ok { OnOk result (object.new ≡ object.old ++ written (named_lines (name_of (Some number)) (lines text.now))) }
     ensures err { OnErr result (object.new ≡ object.old) }

@@ -137,7 +137,7 @@ impl MessageComponent {
         self.slot
     }
 
-    /// The same in a room of this zone, on whose clocks a time that isn't fixed is read.
+    /// The slot in a room of this zone, on whose clocks a time that isn't fixed is read.
     pub fn slot_in(&self, zone: &RoomZone) -> Slot
         ensures { IsComponentSlot (room_of zone.now) self.now (slot_of result) }
     {
@@ -221,7 +221,7 @@ fn copied(alloc: Global, series: &Option<Series>) -> Result<Option<Series>, Allo
     ensures { IfOk result (λ copy. (event : events.EventComponent) (own : List Single) → AreInstancesOf event own series.now → AreInstancesOf event own copy) }
 {
     match series {
-        Some(series) => Ok(Some(series.without(alloc, &[])?)),
+        Some(series) => Ok(Some(series.copy(alloc)?)),
         None => Ok(None),
     }
 }

@@ -1,5 +1,5 @@
 //! What an object asks for, and the events of its VEVENTs: METHOD comes first, and says how they are read and judged.
-ghost use Rattle.std.specs.Prelude.{◌≡◌, true, map, codes, option_map, IfOk, IfErr, OnOk, IsTrue};
+ghost use Rattle.std.specs.Prelude.{◌≡◌, Some, true, map, option_map, IfOk, IfErr, OnOk, IsTrue};
 ghost use Rattle.std.specs.List.{list_all};
 ghost use Rattle.std.specs.Str.{bytes_eq};
 ghost use Rattle.ical_lines.specs.Fault.{RefusesOnly, RefusesBy};
@@ -9,12 +9,13 @@ ghost use Rattle.ical_values.specs.Octets.{address_octets};
 ghost use Rattle.profile.specs.faults.Faults.{is_message_fault};
 ghost use Rattle.profile.specs.text.Lines.{line_value};
 ghost use Rattle.profile.specs.text.Trees.{tree_own};
-ghost use Rattle.profile.specs.events.Messages.{MessageFault, MethodFault, NamesMethod, has_one_attendee, is_of_attendee};
+ghost use Rattle.profile.specs.events.Messages.{MessageFault, MethodFault, NamesMethod, has_one_attendee};
+ghost use Rattle.profile.specs.events.EventComponents.{ATTENDEE, is_of_one, presence};
 ghost use Rattle.cal_events.specs.Component.{component_of, method_said};
 ghost use Rattle.itip_messages.specs.Message.{IsMethodWord, IsNotOneEach, SaysEvents, WordFault};
 
-use cal_events::{Attendee, EventComponent, Method, read_meeting};
-use ical_lines::{Fault, Line, Refusal};
+use cal_events::{Attendee, EventComponent, Method, Property, read_meeting};
+use ical_lines::{Fault, Refusal};
 use ical_tree::{Component, Properties};
 use std::alloc::Global;
 
@@ -43,44 +44,32 @@ fn method_of(properties: &Properties<'_>) -> Result<Method, Refusal>
     ensures fault { IfErr result (λ e. MethodFault properties.now e.number) }
 {
     match properties.optional("METHOD", Refusal::BAD_METHOD)? {
-        Some(line) => method_named(line),
+        Some(line) => method_named(line.value()),
         None => Ok(Method::Store),
     }
 }
 
-/// By the word of METHOD.
+/// The method that a word names.
 /// Refused: 60 for one that isn't supported.
-fn method_named(line: Line<'_>) -> Result<Method, Refusal>
-    ensures named { IfOk result (IsMethodWord (line_value (line_text line.entry))) }
+fn method_named(word: &str) -> Result<Method, Refusal>
+    ensures named { IfOk result (IsMethodWord word.now) }
     ensures refuses { IfErr result (λ e. IsTrue (is_message_fault e.number)) }
-    ensures fault { IfErr result (λ e. WordFault (line_value (line_text line.entry)) e.number) }
+    ensures fault { IfErr result (λ e. WordFault word.now e.number) }
 {
-    let word = line.value();
-    if word.eq_ignore_ascii_case("REQUEST") {
-        return Ok(Method::Request);
+    match Method::named(word) {
+        Some(method) => Ok(method),
+        None => Err(Refusal::BAD_METHOD),
     }
-    if word.eq_ignore_ascii_case("ADD") {
-        return Ok(Method::Add);
-    }
-    if word.eq_ignore_ascii_case("CANCEL") {
-        return Ok(Method::Cancel);
-    }
-    if word.eq_ignore_ascii_case("REPLY") {
-        return Ok(Method::Reply);
-    }
-    if word.eq_ignore_ascii_case("REFRESH") {
-        return Ok(Method::Refresh);
-    }
-    Err(Refusal::BAD_METHOD)
 }
 
-/// Refuses VEVENTs in which an attendee speaks, where one doesn't have one attendee.
+/// Refuses VEVENTs of which METHOD asks for one attendee each, where one doesn't have one.
 /// Refused: 64 for such a VEVENT.
 fn judge_attendees(method: Method, events: &[EventComponent]) -> Result<(), Refusal>
-    ensures each { OnOk result (is_of_attendee (method_said method) ≡ true → list_all has_one_attendee (map component_of events.now) ≡ true) }
+    ensures each { OnOk result (is_of_one (presence ATTENDEE (Some (method_said method))) ≡ true → list_all has_one_attendee (map component_of events.now) ≡ true) }
     ensures fault { IfErr result (λ e. IsNotOneEach (method_said method) (map component_of events.now) e.number) }
 {
-    if method.is_of_attendee() && !all_have_one(events) {
+    let attendees = Property::Attendee.presence(Some(method));
+    if attendees.is_of_one() && !all_have_one(events) {
         return Err(Refusal::NOT_ONE_ATTENDEE);
     }
     Ok(())

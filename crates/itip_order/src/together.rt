@@ -49,6 +49,7 @@ impl<'a> Together<'a> {
         ensures { (history : List revisions.Part) → RepresentsHistory self.now history
             → result ≡ revisions.in_view history (part_of part.now) }
     {
+        // Only for the proof: the registers of each value are in order.
         let _ = &self.first;
         match self.register(part, part.slot) {
             Some(register) => part.cmp_part(register).is_eq() && self.allows(part),
@@ -62,6 +63,7 @@ impl<'a> Together<'a> {
             × IsTrue (revisions.same_place (part_of found.now) (at_slot (part_of part.now) (slot_of slot)))) }
         ensures none { IfNone result (HasNone self.now (at_slot (part_of part.now) (slot_of slot))) }
     {
+        // Only for the proof: the registers of each value are in order.
         let _ = &self.first;
         let Some(found) = self.register(part, slot) else {
             return None;
@@ -76,6 +78,7 @@ impl<'a> Together<'a> {
     pub fn slots(&self, alloc: Global) -> Result<Vec<Slot>, AllocError>
         ensures { IfOk result (λ slots. (part : revisions.Part) → Contains self.now part → Contains (map slot_of slots.items) part.slot) }
     {
+        // Only for the proof: the registers of each value are in order.
         let _ = &self.first;
         let mut slots = Vec::new(alloc);
         push_slots(&mut slots, self.first)?;
@@ -87,6 +90,7 @@ impl<'a> Together<'a> {
     pub(crate) fn allows(&self, part: &Part) -> bool
         ensures { result ≡ is_allowed_by self.now (part_of part.now) }
     {
+        // Only for the proof: the registers of each value are in order.
         let _ = &self.first;
         match part.slot {
             Slot::Whole => true,

@@ -7,15 +7,15 @@ use Rattle.profile.specs.rooms.Revisions.{Slot, Whole, At}
 use Rattle.profile.specs.organisers.Organisers.{rank}
 use Rattle.organiser_books.specs.declared.answers.AttendeeAnswer.{AttendeeAnswer}
 use Rattle.organiser_books.specs.declared.answers.AnswerKey.{AnswerKey}
-use Rattle.organiser_books.specs.declared.answers.AnswerSlot.{AnswerSlot}
-use Rattle.organiser_books.specs.declared.answers.AnswerSlot.TheVariants as slots
+use Rattle.itip_order.specs.declared.part.Slot.{Slot as OwnSlot}
+use Rattle.itip_order.specs.declared.part.Slot.TheVariants as slots
 use Rattle.organiser_books.specs.contracts.answers.AnswerKeyPartialEq.TheImpl as keys
 
 -- two keys are one
 abbrev pub same_answer_key : AnswerKey → AnswerKey → Bool
 same_answer_key = keys.eq-value.it
 
-abbrev pub slot_key : Slot → AnswerSlot
+abbrev pub slot_key : Slot → OwnSlot
 slot_key Whole = slots.Whole
 slot_key (At instant) = slots.At instant
 

@@ -16,18 +16,11 @@ use std::cmp::Ordering;
 /// The latest answer of each attendee for each slot.
 pub(crate) type AttendeeAnswers = IndexMap<AnswerKey, AttendeeAnswer>;
 
-/// A slot of a meeting, by which an answer is looked up.
-#[derive(Clone, Copy, PartialEq, Eq, Hash, Drop)]
-pub(crate) enum AnswerSlot {
-    Whole,
-    At(i64),
-}
-
 /// Whose answer it is, by the place of the attendee in its meeting, and for which slot.
 #[derive(Clone, Copy, PartialEq, Eq, Hash, Drop)]
 pub(crate) struct AnswerKey {
     attendee: usize,
-    slot: AnswerSlot,
+    slot: Slot,
 }
 
 /// What an attendee answered, and when.
@@ -42,10 +35,6 @@ impl AnswerKey {
     pub fn at(attendee: usize, slot: Slot) -> AnswerKey
         ensures { result ≡ answer_key_at attendee (slot_of slot) }
     {
-        let slot = match slot {
-            Slot::Whole => AnswerSlot::Whole,
-            Slot::At(instant) => AnswerSlot::At(instant),
-        };
         AnswerKey { attendee, slot }
     }
 }

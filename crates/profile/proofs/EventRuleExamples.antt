@@ -1,5 +1,5 @@
 -- The rule of a VEVENT, worked by the definitions alone. Its start is Monday 2025-03-10 at 09:00.
-use Rattle.std.proofs.Common.{◌≡◌, ◌-ℤ◌, sym, ℤ, pos, negsuc, [], ◌∷◌, codes, inl, inr, refl, arith, lit<}
+use Rattle.std.proofs.Common.{◌≡◌, ◌-ℤ◌, Option, sym, ℤ, pos, negsuc, [], ◌∷◌, codes, inl, inr, refl, arith, lit<}
 use Rattle.std.specs.Prelude.{Some, None}
 use Rattle.std.proofs.lemmas.Int.{ints}
 use Rattle.std.proofs.lemmas.Bool.{true≢false}
@@ -12,7 +12,8 @@ use Rattle.profile.specs.series.Rules.{RuleText, UntilDay, UntilLocal, UntilInst
 use Rattle.profile.specs.series.RuleTexts.{rule_parts, after_key, SpellsRule, IsKnownPart, Count, ByDay}
 use Rattle.profile.specs.series.Zones.{Zone, Constant, Means}
 use Rattle.profile.specs.events.ZonedTimes.{EventTimes}
-use Rattle.profile.specs.events.EventRules.{IsLastAllowed, SaysEventRule, EventRuleFault, two_rules, starts_outside}
+use Rattle.profile.specs.events.EventRules.{IsLastAllowed, SaysEventRule, EventRuleFault, starts_outside}
+use Rattle.profile.specs.events.EventComponents.{Method, PresenceFault, twice, RRULE}
 
 -- ---- the last day that UNTIL allows
 
@@ -154,8 +155,8 @@ without_start = record {
 
 -- ---- what is wrong with it
 
-two_of_them : (object : Tree) → EventRuleFault object (codes "RRULE:FREQ=DAILY" ∷ codes "RRULE:FREQ=DAILY" ∷ []) 61
-two_of_them object = two_rules (omega arith)
+two_of_them : (method : Option Method) → PresenceFault method (codes "RRULE:FREQ=DAILY" ∷ codes "RRULE:FREQ=DAILY" ∷ []) 61
+two_of_them method = twice RRULE refl (omega arith)
 
 -- FREQ=WEEKLY;BYDAY=TU from a Monday on
 tuesdays : RuleText

@@ -10,7 +10,7 @@ use Rattle.profile.specs.text.Lines.{line_param}
 use Rattle.profile.specs.checker.Calendars.{CalendarTextFault, in_lines, in_tree}
 use Rattle.profile.specs.text.Trees.{Tree, tree, none, more, vevents}
 use Rattle.profile.specs.text.Values.{unescaped}
-use Rattle.profile.specs.events.EventComponents.{Method, Store, Request, Add, Cancel, Reply, may_lack_start, EventComponent, Participation, Accepted, Declined, NeedsAction, answer_named, answer_of, is_by_server, summary_of}
+use Rattle.profile.specs.events.EventComponents.{Method, Store, Request, Add, Cancel, Reply, ORGANIZER, RRULE, RDATE, ATTENDEE, presence, Once, AtMostOnce, Never, OfOne, occurs_once, may_lack_start, EventComponent, Participation, Accepted, Declined, NeedsAction, answer_named, answer_of, is_by_server, summary_of}
 use Rattle.profile.specs.events.Properties.{Fixed, lines_named}
 use Rattle.profile.specs.rooms.Revisions.{Part, Whole, At, Set, Absent, Cancelled, same_meeting}
 use Rattle.profile.specs.events.Events.{start_written, Event, taken_by}
@@ -126,6 +126,22 @@ another_room_has_nothing : answer_of (codes "r:2") (event_with Accepted Accepted
 another_room_has_nothing = refl
 
 -- ---- messages
+
+-- some fields of the table
+a_calendar_may_lack_its_organiser : presence ORGANIZER None ≡ AtMostOnce
+a_calendar_may_lack_its_organiser = refl
+
+a_message_may_not : (method : Method) → presence ORGANIZER (Some method) ≡ Once
+a_message_may_not method = refl
+
+an_added_instance_has_no_rule : (presence RRULE (Some Add) ≡ Never) × (presence RDATE (Some Add) ≡ Never)
+an_added_instance_has_no_rule = (refl, refl)
+
+a_reply_is_of_one : presence ATTENDEE (Some Reply) ≡ OfOne
+a_reply_is_of_one = refl
+
+a_rule_occurs_once : (occurs_once RRULE ≡ true) × (occurs_once RDATE ≡ false)
+a_rule_occurs_once = (refl, refl)
 
 a_cancel_may_lack_its_start : may_lack_start (Some Cancel) ≡ true
 a_cancel_may_lack_its_start = refl

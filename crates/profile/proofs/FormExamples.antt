@@ -106,7 +106,7 @@ lasts_to_the_eleventh object = record {
 }
 
 -- a day and a time don't go together
-day_and_time : (object : Tree) → EventTimesFault false object (codes "DTSTART:20250310" ∷ codes "DTEND:20250310T090000" ∷ []) 57
+day_and_time : (object : Tree) → EventTimesFault object (codes "DTSTART:20250310" ∷ codes "DTEND:20250310T090000" ∷ []) 57
 day_and_time object = other_form (
   WholeDay,
   Floating,

@@ -1,12 +1,12 @@
 -- the headline, and below it what it rests on, by what a reader wants to believe
 pub mod Headline
--- what a yes of the checker means
+-- what a yes of the checker means, and what is published of a room
 pub mod checker
 -- what a room takes, decides and keeps
 pub mod rooms
 -- what an organiser keeps, sends and receives
 pub mod organisers
--- what is written for a stream
+-- what is written for a stream, in a folder, in a world of several, and in a report
 pub mod streams
 -- what the lines of a VEVENT say
 pub mod events

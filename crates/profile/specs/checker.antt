@@ -1,4 +1,4 @@
--- what a yes of the checker means
+-- what a yes of the checker means, and what is published of a room
 pub mod Instances
 pub mod Certificates
 pub mod Calendars

@@ -4,9 +4,9 @@ pub mod examples
 pub mod laws_lemmas
 pub mod reply_lemmas
 pub mod room_lemmas
-pub mod series_lemmas
+pub mod hidden_lemmas
 pub mod shared_lemmas
 pub mod slots_lemmas
-pub mod taking_lemmas
+pub mod change_lemmas
 pub mod texts_lemmas
 pub mod timeline_lemmas

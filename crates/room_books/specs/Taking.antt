@@ -255,6 +255,11 @@ IsKindOf before after claims outcome kind =
     IsTrue (nat_lt 0 (length claims)) → nat_lt 0 (length (rooms.asked before after (claims_said claims))) ≡ is_some outcome
     → kind_view kind ≡ rooms.kind_of before after (claims_said claims) (outcome_said outcome)
 
+-- the same of each history that the meeting before represents, and each that is held of it after
+abbrev pub IsKindIn : Option Meeting → List revisions.Part → List Claim → Option Outcome → Kind → Type 0
+IsKindIn before held claims outcome kind =
+    (earlier later : List revisions.Part) → HasHistory before earlier → RepresentsHistory held later → IsKindOf earlier later claims outcome kind
+
 -- the part in the view of these registers that is of that place
 pub record IsViewed (held : List revisions.Part) (place part : revisions.Part) : Type 0 where
   pub seen : IsInView held part

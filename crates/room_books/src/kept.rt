@@ -9,7 +9,7 @@ ghost use Rattle.room_books.specs.Slots.{AreAnswersBySlot, HasRoom, Reordered, i
 
 use crate::meeting::PartAnswer;
 use crate::slots::{place_before, place_past};
-use itip_order::{Held, Slot};
+use itip_order::{Held, Part, Slot};
 use std::alloc::{AllocError, Global};
 
 /// What a message does to the answers of its meeting: those of some slots go, and others come.
@@ -49,7 +49,10 @@ impl Changes {
 
 impl Meeting {
     ghost use Rattle.itip_order.specs.Registers.{together};
-    ghost use Rattle.room_books.specs.Taking.{answers_then, IsMadeOf};
+    ghost use Rattle.std.specs.Prelude.{IfSome, IfNone};
+    ghost use Rattle.itip_order.specs.Registers.{at_slot, HasNone};
+    ghost use Rattle.itip_order.specs.Parts.{part_of};
+    ghost use Rattle.room_books.specs.Taking.{answers_then, IsMadeOf, IsViewed};
 
     /// One of which nothing was taken before.
     pub fn new(held: Held, changes: Changes) -> Meeting
@@ -59,6 +62,15 @@ impl Meeting {
             held,
             answers: changes.new,
         }
+    }
+
+    /// The part in the view of a slot; the part that is given is any one of the meeting.
+    pub fn part_in(&self, part: &Part, slot: Slot) -> Option<&Part>
+        ensures found { IfSome result (λ found. IsViewed self.now.held (at_slot (part_of part.now) (slot_of slot)) (part_of found.now)) }
+        ensures none { IfNone result (HasNone self.now.held (at_slot (part_of part.now) (slot_of slot))) }
+    {
+        let held = self.held.alone();
+        held.part_in(part, slot)
     }
 
     /// Takes more parts, and changes the answers in place. On an error nothing has changed. It moves the answers that come after those

@@ -2,11 +2,13 @@
 #![tactic(auto)]
 
 pub mod answer;
+mod change;
 mod claim;
 mod claims;
 mod confirming;
 mod decide;
 mod gone;
+mod hidden;
 mod kept;
 mod laws;
 pub mod meeting;
@@ -14,9 +16,7 @@ mod recurring;
 mod refresh;
 mod reply;
 pub mod room;
-mod series;
 mod slots;
-mod taking;
 pub mod texts;
 mod timeline;
 

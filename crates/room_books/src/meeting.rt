@@ -4,11 +4,13 @@ ghost use Rattle.std.specs.Prelude.{◌≡◌, true, IfOk};
 ghost use Rattle.room_books.specs.Claim.{is_of_whole};
 
 use crate::answer::LimitKind;
+use crate::claim::Claim;
+use crate::hidden::{left_of, series_left};
 use cal_events::{Instance, InstanceKey, OwnedKey, Series, Single};
 use clash_cert::Clash;
 use ical_values::{Address, Stamp, Text};
-use itip_order::Slot;
-use std::alloc::AllocError;
+use itip_order::{Slot, Together};
+use std::alloc::{AllocError, Global};
 
 /// A meeting's name: the UID of an ORGANIZER.
 #[derive(PartialEq, Eq, Hash, Drop)]
@@ -70,6 +72,18 @@ pub enum Outcome {
     Limit(LimitKind),
 }
 
+impl Outcome {
+    ghost use Rattle.profile.specs.rooms.Rooms as rooms;
+    ghost use Rattle.room_books.specs.Meeting.{outcome_of};
+
+    /// Whether it is to accept.
+    pub fn is_accept(&self) -> bool
+        ensures { result ≡ rooms.is_accept (outcome_of self.now) }
+    {
+        matches!(self, Outcome::Accepted)
+    }
+}
+
 /// The answer to a part: when and how it was decided, and the instances that it confirms. It is kept as long as the part is
 /// in the view, so that a repeat gets the same answer.
 #[derive(Drop)]
@@ -85,4 +99,51 @@ pub struct PartAnswer {
     /// whole recurs.
     pub series: Option<Series>,
     ghost whole: { is_of_whole series slot ≡ true },
+}
+
+impl PartAnswer {
+    ghost use Rattle.room_books.specs.Taking.{IsAccepted, IsDecided};
+
+    /// The answer to a claim at a moment, if it were accepted.
+    pub(crate) fn accepted(
+        alloc: Global,
+        held: &Together<'_>,
+        claim: &Claim,
+        moment: Stamp,
+    ) -> Result<PartAnswer, AllocError>
+        ensures { IfOk result (IsAccepted held.now claim.now moment) }
+    {
+        let singles = left_of(alloc, held, &claim.part, &claim.singles)?;
+        let series = series_left(alloc, held, &claim.part, &claim.series)?;
+        Ok(PartAnswer {
+            slot: claim.part.slot,
+            moment,
+            outcome: Outcome::Accepted,
+            singles,
+            series,
+        })
+    }
+
+    /// This answer with what was decided: it confirms something only where that is to accept it.
+    pub(crate) fn decided(self, alloc: Global, outcome: &Outcome) -> Result<PartAnswer, AllocError>
+        ensures { IfOk result (IsDecided self outcome.now) }
+    {
+        let outcome = outcome.clone()?;
+        if outcome.is_accept() {
+            return Ok(PartAnswer {
+                slot: self.slot,
+                moment: self.moment,
+                outcome,
+                singles: self.singles,
+                series: self.series,
+            });
+        }
+        Ok(PartAnswer {
+            slot: self.slot,
+            moment: self.moment,
+            outcome,
+            singles: Vec::new(alloc),
+            series: None,
+        })
+    }
 }

@@ -114,6 +114,7 @@ fn clash_with<'a>(
 fn alone(series: &Series) -> Option<(Single, Single)>
     ensures { IsSharedByItself series.now result }
 {
+    // Only for the proof: an instance of a series is known by its start.
     cal_events::known_by_start();
     let (first, second) = clash_alone(series)?;
     Some((as_single(&first), as_single(&second)))

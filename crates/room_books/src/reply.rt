@@ -1,6 +1,6 @@
 //! The reply to a message: a VEVENT for each part that is to take place and is in the view.
 
-ghost use Rattle.std.specs.Prelude.{◌≡◌, IfOk, IfSome, IfNone, OnOk, List};
+ghost use Rattle.std.specs.Prelude.{◌≡◌, IfOk, IfSome, IfNone, OnOk, List, option_copied};
 ghost use Rattle.ical_values.specs.Octets.{address_octets};
 ghost use Rattle.itip_order.specs.Parts.{part_of, slot_of};
 ghost use Rattle.itip_order.specs.Registers.{RepresentsHistory};
@@ -11,12 +11,13 @@ ghost use Rattle.profile.specs.rooms.Kept.{Replies};
 ghost use Rattle.room_books.specs.declared.meeting.MeetingKey.{MeetingKey};
 ghost use Rattle.room_books.specs.declared.kept.Meeting.{Meeting};
 ghost use Rattle.room_books.specs.Meeting.{outcome_of};
-ghost use Rattle.room_books.specs.Taking.{answers_then, claims_said, octets_in, IsMadeOf, OutcomeDated};
+ghost use Rattle.room_books.specs.Taking.{answers_by, answers_then, claims_said, octets_in, IsMadeOf, OutcomeDated};
 ghost use Rattle.room_books.specs.Room.{AreFitting, IsOwn, Meets, SlotDated};
 ghost use Rattle.room_books.specs.Slots.{AreAnswersBySlot};
 ghost use Rattle.room_books.specs.Reply.{AreShown, CanTell, AllTell, IsEventIn, IsReplyOf, ShowsGiven, WritesAnswers};
 
 use crate::answer::LimitKind;
+use crate::change::Views;
 use crate::claim::Claim;
 use crate::kept::Changes;
 use crate::meeting::{Outcome, PartAnswer};
@@ -24,46 +25,37 @@ use crate::slots::answer_after;
 use clash_cert::Clash;
 use ical_values::{Address, Stamp};
 use itip_messages::{Conflict, Decision, ObjectWriter, ReplyEvent, write_event};
-use itip_order::{Part, Slot, Together};
+use itip_order::{Part, Slot};
 use std::alloc::{AllocError, Global};
 
-/// The REPLY to a message with these claims, where this is held of the meeting after it, and these are its answers before and what becomes
-/// of them: a VEVENT for each part that is to take place and is in the view, in their order; None where there is none.
+/// The REPLY to a message that changes the answers of its meeting so: a VEVENT for each part that is to take place and is in the view, in their order; None where there is none.
 ///
 /// A part is looked up in the view by binary search, and so is its answer.
-pub fn reply_to(
-    alloc: Global,
+pub(crate) fn reply_to(
     room: &Address,
-    claims: &[Claim],
-    held: &Together<'_>,
-    before: &[PartAnswer],
+    views: &Views<'_>,
     changes: &Changes,
 ) -> Result<Option<Vec<u8>>, AllocError>
-    requires { AreAnswersBySlot before.now }
-    ensures { IfOk result (λ reply. (key : MeetingKey) (own : Book) (meeting : Meeting) → AreFitting key (claims_said claims.now)
+    ensures { IfOk result (λ reply. (key : MeetingKey) (own : Book) (meeting : Meeting) → AreFitting key (claims_said views.now.claims.now)
         → IsOwn key own
-        → IsMadeOf held.now (answers_then before.now changes.now) meeting → Meets own key meeting
-        → Replies (address_octets room.now) own (claims_said claims.now) (octets_in reply)) }
+        → IsMadeOf views.now.after.now (answers_then (answers_by (option_copied views.now.before)) changes.now) meeting → Meets own key meeting
+        → Replies (address_octets room.now) own (claims_said views.now.claims.now) (octets_in reply)) }
 {
-    let shown = shown_in(alloc, claims, held)?;
+    let shown = shown_in(views)?;
     if shown.is_empty() {
         return Ok(None);
     }
-    let octets = reply_of(alloc, room, &shown, before, changes)?;
+    let octets = reply_of(views.alloc, room, &shown, views.answers(), changes)?;
     Ok(Some(octets))
 }
 
 /// The claims that a reply answers: their parts are to take place, and in the view.
-fn shown_in<'a>(
-    alloc: Global,
-    claims: &'a [Claim],
-    held: &Together<'_>,
-) -> Result<Vec<&'a Claim>, AllocError>
-    ensures { IfOk result (λ shown. (history : List revisions.Part) → RepresentsHistory held.now history → AreShown history claims.now shown.items) }
+fn shown_in<'a>(views: &Views<'a>) -> Result<Vec<&'a Claim>, AllocError>
+    ensures { IfOk result (λ shown. (history : List revisions.Part) → RepresentsHistory views.now.after.now history → AreShown history views.now.claims.now shown.items) }
 {
-    let mut shown = Vec::new(alloc);
-    for claim in claims {
-        if claim.is_set() && held.shows(&claim.part) {
+    let mut shown = Vec::new(views.alloc);
+    for claim in views.claims {
+        if claim.is_set() && views.shows(&claim.part) {
             shown.push(claim)?;
         }
     }

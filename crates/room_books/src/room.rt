@@ -1,14 +1,13 @@
 //! A room takes messages one after another. A message is taken whole or not at all: everything is computed
 //! beside the room, and put into it by the last step.
 
-ghost use Rattle.std.specs.Prelude.{◌≡◌, ◌≢◌, ◌⊎◌, ◌<◌, ◌≤◌, ◌+◌, ◌++◌, ℕ, List, [], Contains, length, map, IfOk, OnOk, OnErr, IsTrue};
+ghost use Rattle.std.specs.Prelude.{◌≡◌, ◌≢◌, ◌⊎◌, ◌<◌, ◌≤◌, ◌+◌, ◌++◌, ℕ, List, [], Contains, length, map, IfOk, OnOk, OnErr, IsTrue, true, option_copied};
 ghost use Rattle.std.specs.Vec.{vec_len, vec_capacity};
-ghost use Rattle.std.specs.List.{IsDistinct};
 ghost use Rattle.std.specs.Map.{lookup};
-ghost use Rattle.indexmap.specs.IndexMap.{keys, insert_index, IsUnchanged};
+ghost use Rattle.indexmap.specs.IndexMap.{insert_index, IsUnchanged};
 ghost use Rattle.ical_values.specs.Octets.{address_octets};
 ghost use Rattle.cal_zones.specs.RoomZones.{room_of, words_of};
-ghost use Rattle.itip_order.specs.Parts.{part_of, slot_of};
+ghost use Rattle.itip_order.specs.Parts.{part_of};
 ghost use Rattle.itip_order.specs.Registers.{RepresentsHistory};
 ghost use Rattle.profile.specs.rooms.Revisions as revisions;
 ghost use Rattle.profile.specs.checker.Instances.{IsClear};
@@ -21,58 +20,51 @@ ghost use Rattle.profile.specs.checker.Calendars.{CertificateHolds};
 ghost use Rattle.profile.specs.rooms.Rooms as rooms;
 ghost use Rattle.profile.specs.rooms.Rooms.{Book, empty_book};
 ghost use Rattle.profile.specs.rooms.Kept.{IsKeptCalendar, IsKeptCertificate, Refreshes, Replies};
-ghost use Rattle.room_books.specs.Gone.{AreSeparate, IsPartedInto, Shifts};
-ghost use Rattle.room_books.specs.Meeting.{same_key, all_confirmed, all_singles, instance_list, confirmed_at, singles_by, others, AreAllApart, IsKeyOf, all_recurring, all_series, beside, in_room, other_recurring, recurring_at, series_at, series_by, AreFewer, AreRecurring, IsClearIn, MayJoin};
-ghost use Rattle.room_books.specs.Recurring.{recurring_said, AreAllOf, AreClearBeside, AreNewClear};
+ghost use Rattle.room_books.specs.Gone.{IsPartedInto, Shifts};
+ghost use Rattle.room_books.specs.Meeting.{same_key, all_confirmed, all_singles, confirmed_at, singles_by, others, AreAllApart, all_recurring, all_series, beside, in_room, series_at, series_by, AreFewer, AreRecurring, IsClearIn, MayJoin};
 ghost use Rattle.cal_events.specs.declared.instance.Single.{Single};
 ghost use Rattle.room_books.specs.Texts.{KeepsReached, SpellsConfirmed};
 ghost use Rattle.room_books.specs.Timeline.{IsTimelineOf};
-ghost use Rattle.room_books.specs.Taking.{answers_by, answers_then, claims_said, held_after, kept_then, kind_view, octets_in, parts_said, refresh_octets, reply_octets, HasHistory, IsMadeOf, IsDecision, IsWholeDecision, AreAnswersDecided, IsKindOf, MayJoinAll};
+ghost use Rattle.room_books.specs.Taking.{answers_by, answers_then, claims_said, held_after, kept_then, kind_view, parts_said, refresh_octets, reply_octets, HasHistory, IsMadeOf, AreAnswersDecided, IsKindIn, MayJoinAll};
 ghost use Rattle.room_books.specs.Slots.{AreAnswersBySlot};
-ghost use Rattle.std.specs.List.Sorted.{IsSortedByKey};
-ghost use Rattle.profile.specs.rooms.Revisions.{slot_cmp};
-ghost use Rattle.room_books.specs.Room.{HaveReached, Represents, StepsWith, AreFitting, IsMeetingAfter, IsOwn, Meets, IsPutIn, IsRenewed};
+ghost use Rattle.room_books.specs.declared.answer.Kind.{Kind};
+ghost use Rattle.room_books.specs.Room.{is_of_meeting, HaveReached, Represents, StepsWith, AreFitting, IsMeetingAfter, IsOwn, Meets, IsPutIn, IsRenewed};
 
-use crate::answer::{Answer, Kind, LimitKind};
+use crate::answer::{Answer, Kind};
+use crate::change::{Change, Views, held_with, parts_of};
 use crate::claim::Claim;
 use crate::claims::claims_of;
-use crate::confirming::{count_series, kept_series, series_of, singles_of};
-use crate::decide::{
-    MOST_SERIES, Meetings, SharedInstant, busy_beside_series, clash_between, decide, keys_differ,
-};
-use crate::gone::Gone;
+use crate::confirming::{count_series, singles_of};
+use crate::decide::{Deciding, Meetings, candidates, decided, keys_differ};
 use crate::kept::{Changes, Meeting};
 use crate::laws::{kept_texts_pass, kept_texts_spell};
 use crate::meeting::{MeetingKey, Outcome, PartAnswer};
-use crate::recurring::{Recurring, clash_from, push_all, single_beside};
 use crate::refresh::refresh_to;
 use crate::reply::reply_to;
-use crate::slots::{answers_of, slots_of};
-use crate::taking::{AnswersKept, Views, candidates, decided, held_with, is_accept, parts_of};
+use crate::slots::slots_of;
 use crate::texts::{KeptTexts, calendar_of, certificate_octets};
 use crate::timeline::Timeline;
-use cal_events::{Calendar, Series, Single, one_calendar_text};
+use cal_events::{Calendar, Single, one_calendar_text};
 use cal_zones::RoomZone;
-use clash_cert::Clash;
 use ical_lines::Fault;
 use ical_values::{Address, Stamp};
 use indexmap::IndexMap;
 use itip_messages::Message;
-use itip_order::{Held, Part, Slot, Together};
+use itip_order::{Held, Together};
 use std::alloc::{AllocError, Global};
 
 /// A room with all that it ever took.
 #[derive(Drop)]
 pub struct Room {
-    alloc: Global,
+    pub(crate) alloc: Global,
     address: Address,
     zone: RoomZone,
-    meetings: Meetings,
-    timeline: Timeline,
+    pub(crate) meetings: Meetings,
+    pub(crate) timeline: Timeline,
     /// The places of the meetings that have series confirmed.
-    recurring: Vec<usize>,
+    pub(crate) recurring: Vec<usize>,
     /// How many series are confirmed.
-    series: usize,
+    pub(crate) series: usize,
     ghost timed: { IsTimelineOf (confirmed_at meetings.entries) timeline.busy.items },
     ghost counted: { timeline.confirmed ≡ length (all_confirmed meetings.entries) },
     ghost clear: { IsClear (Contains (all_confirmed meetings.entries)) },
@@ -85,33 +77,14 @@ pub struct Room {
     ghost reached: { ∥ HaveReached (address_octets address) (room_of zone) meetings.entries ∥₁ },
 }
 
-/// What a message does to the answers of its meeting, the instances that the meeting no longer confirms and those that it confirms now and
-/// didn't before, and what became of the message.
+/// What is decided of a message: what it does to the answers of its meeting, and which instances the meeting no longer confirms, and which
+/// it confirms now and didn't before.
 #[derive(Drop)]
-struct Settled {
+struct Decided {
     changes: Changes,
     gone: Vec<Single>,
     added: Vec<Single>,
-    kind: Kind,
-}
-
-/// The same, and the objects that are sent.
-#[derive(Drop)]
-struct Taken {
-    changes: Changes,
-    gone: Vec<Single>,
-    added: Vec<Single>,
-    kind: Kind,
-    reply: Option<Vec<u8>>,
-    refresh: Option<Vec<u8>>,
-}
-
-/// What a message does to the answers of its meeting, the instances that are confirmed by those to its parts, and what was decided of
-/// these; None where none is new.
-#[derive(Drop)]
-struct Answered {
-    changes: Changes,
-    added: Vec<Single>,
+    /// None where none of its parts gets an answer now.
     outcome: Option<Outcome>,
 }
 
@@ -182,8 +155,9 @@ impl Room {
         let Some(first) = claims.first() else {
             return Ok(Answer::silent(Kind::NotAddressed));
         };
+        let key = MeetingKey::of(&first.part.organiser, &first.part.uid)?;
         let adds = message.method().is_add();
-        let answer = self.take_claims(&first.part, &claims, adds, now)?;
+        let answer = self.take_claims(key, &claims, adds, now)?;
         Ok(answer)
     }
 
@@ -198,6 +172,7 @@ impl Room {
         ensures calendar { IfOk result (λ texts. (book : Book) → Represents self.now.meetings.entries book → IsKeptCalendar (address_octets self.now.address) (words_of self.now.zone) book texts.calendar.items) }
         ensures certificate { IfOk result (λ texts. IsKeptCertificate (address_octets self.now.address) texts.calendar.items texts.certificate.items) }
     {
+        // Only for the proof: what these laws say.
         kept_texts_spell();
         kept_texts_pass();
         self.zone.words_mean();
@@ -216,6 +191,7 @@ impl Room {
         ensures passes { IfOk result (λ text. (book : Book) → IsReached (address_octets self.now.address) (room_of self.now.zone) book → Represents self.now.meetings.entries book
             → (certificate : List ℕ) → IsKeptCertificate (address_octets self.now.address) text.items certificate → CertificateHolds (address_octets self.now.address) text.items certificate) }
     {
+        // Only for the proof: what these laws say.
         kept_texts_pass();
         self.zone.words_mean();
         let text = calendar_of(self.alloc, &self.meetings, &self.address, &self.zone)?;
@@ -240,6 +216,7 @@ impl Room {
         requires kept { (book : Book) → Represents self.now.meetings.entries book → IsKeptCalendar (address_octets self.now.address) (words_of self.now.zone) book calendar.now }
         ensures { IfOk result (λ text. IsKeptCertificate (address_octets self.now.address) calendar.now text.items) }
     {
+        // Only for the proof: what these laws say.
         kept_texts_spell();
         one_calendar_text();
         self.zone.words_mean();
@@ -251,137 +228,97 @@ impl Room {
         }
     }
 
-    /// Takes the claims of a message, of one meeting, that adds instances or doesn't; the part is the first one's.
+    /// Takes the claims of a message to this meeting, that adds instances or doesn't.
     // Apart from `take`, which pays for all its locals also where a message isn't addressed to the room.
     #[inline(never)]
     fn take_claims(
         &mut self,
-        first: &Part,
+        key: MeetingKey,
         claims: &[Claim],
         adds: bool,
         now: Stamp,
     ) -> Result<Answer, AllocError>
         requires some { 0 < length claims.now }
         requires delivered { ∥ IsDelivered (address_octets self.old.address) (room_of self.old.zone) (record { claims = claims_said claims.now; moment = now })
-            × ((key : MeetingKey) → IsKeyOf (part_of first.now).organiser (part_of first.now).uid key → AreFitting key (claims_said claims.now)) ∥₁ }
-        ensures steps { IfOk result (λ answer. ((key : MeetingKey) → IsKeyOf (part_of first.now).organiser (part_of first.now).uid key → AreFitting key (claims_said claims.now))
-            → (book : Book) → Represents self.old.meetings.entries book
+            × AreFitting key (claims_said claims.now) ∥₁ }
+        ensures steps { IfOk result (λ answer. AreFitting key (claims_said claims.now) → (book : Book) → Represents self.old.meetings.entries book
             → StepsWith (address_octets self.old.address) self.new.meetings.entries book (claims_said claims.now) now (kind_view answer.kind) (reply_octets answer) adds (refresh_octets answer)) }
         ensures address { self.new.address ≡ self.old.address }
         ensures zone { self.new.zone ≡ self.old.zone }
         ensures err { OnErr result (IsUnchanged self.old.meetings self.new.meetings) }
     {
-        keys_differ(&self.meetings);
-        let key = MeetingKey::of(&first.organiser, &first.uid)?;
-        let more = parts_of(self.alloc, claims)?;
-        let Taken {
+        let parts = parts_of(self.alloc, claims)?;
+        let (decided, answer) = self.answered(&key, claims, &parts, adds, now)?;
+        let Decided {
             changes,
             gone,
             added,
-            kind,
-            reply,
-            refresh,
-        } = self.taken_by(&key, first, claims, &more, adds, now)?;
-        self.put(key, more, changes, &gone, &added)?;
-        Ok(Answer {
-            kind,
-            reply,
-            refresh,
-        })
+            outcome: _,
+        } = decided;
+        self.put(key, parts, changes, &gone, &added)?;
+        Ok(answer)
     }
 
-    /// What these claims do to their meeting, of which their parts are taken too; the part is the first one's.
-    fn taken_by(
+    /// What is decided of these claims of a meeting, with these parts, and the answer to their message, which adds instances or doesn't.
+    fn answered(
         &self,
         key: &MeetingKey,
-        first: &Part,
         claims: &[Claim],
-        more: &Held,
+        parts: &Held,
         adds: bool,
         now: Stamp,
-    ) -> Result<Taken, AllocError>
+    ) -> Result<(Decided, Answer), AllocError>
         requires some { 0 < length claims.now }
-        requires more { RepresentsHistory more.now (parts_said claims.now) }
-        ensures shifts { IfOk result (λ taken.
-            Shifts (singles_by (lookup (same_key key.now) self.now.meetings.entries)) taken.gone.items taken.added.items
-            (all_singles (answers_then (answers_by (lookup (same_key key.now) self.now.meetings.entries)) taken.changes))) }
-        ensures after { IfOk result (λ taken. IsKeyOf (part_of first.now).organiser (part_of first.now).uid key.now → AreFitting key.now (claims_said claims.now)
+        requires parts { RepresentsHistory parts.now (parts_said claims.now) }
+        ensures shifts { IfOk result (λ done.
+            Shifts (singles_by (lookup (same_key key.now) self.now.meetings.entries)) done.0.gone.items done.0.added.items
+            (all_singles (answers_then (answers_by (lookup (same_key key.now) self.now.meetings.entries)) done.0.changes))) }
+        ensures after { IfOk result (λ done. AreFitting key.now (claims_said claims.now)
             → (book : Book) → Represents self.now.meetings.entries book → (meeting : Meeting)
-            → IsMadeOf (held_after (lookup (same_key key.now) self.now.meetings.entries) more.now) (answers_then (answers_by (lookup (same_key key.now) self.now.meetings.entries)) taken.changes) meeting
-            → IsMeetingAfter book key.now (claims_said claims.now) now (kind_view taken.kind) meeting) }
-        ensures joins { IfOk result (λ taken.
-            MayJoin (others key.now self.now.meetings.entries) key.now (all_singles (answers_then (answers_by (lookup (same_key key.now) self.now.meetings.entries)) taken.changes))) }
-        ensures recurs { IfOk result (λ taken.
-            MayJoinAll (beside key.now self.now.meetings.entries) key.now (answers_then (answers_by (lookup (same_key key.now) self.now.meetings.entries)) taken.changes)) }
-        ensures replies { IfOk result (λ taken. (own : Book) (meeting : Meeting) → AreFitting key.now (claims_said claims.now)
+            → IsMadeOf (held_after (lookup (same_key key.now) self.now.meetings.entries) parts.now) (answers_then (answers_by (lookup (same_key key.now) self.now.meetings.entries)) done.0.changes) meeting
+            → IsMeetingAfter book key.now (claims_said claims.now) now (kind_view done.1.kind) meeting) }
+        ensures joins { IfOk result (λ done.
+            MayJoin (others key.now self.now.meetings.entries) key.now (all_singles (answers_then (answers_by (lookup (same_key key.now) self.now.meetings.entries)) done.0.changes))) }
+        ensures recurs { IfOk result (λ done.
+            MayJoinAll (beside key.now self.now.meetings.entries) key.now (answers_then (answers_by (lookup (same_key key.now) self.now.meetings.entries)) done.0.changes)) }
+        ensures replies { IfOk result (λ done. (own : Book) (meeting : Meeting) → AreFitting key.now (claims_said claims.now)
             → IsOwn key.now own
-            → IsMadeOf (held_after (lookup (same_key key.now) self.now.meetings.entries) more.now) (answers_then (answers_by (lookup (same_key key.now) self.now.meetings.entries)) taken.changes) meeting
+            → IsMadeOf (held_after (lookup (same_key key.now) self.now.meetings.entries) parts.now) (answers_then (answers_by (lookup (same_key key.now) self.now.meetings.entries)) done.0.changes) meeting
             → Meets own key.now meeting
-            → Replies (address_octets self.now.address) own (claims_said claims.now) (octets_in taken.reply)) }
-        ensures refreshes { IfOk result (λ taken. (before after : List revisions.Part)
+            → Replies (address_octets self.now.address) own (claims_said claims.now) (reply_octets done.1)) }
+        ensures refreshes { IfOk result (λ done. (before after : List revisions.Part)
             → HasHistory (lookup (same_key key.now) self.now.meetings.entries) before
-            → RepresentsHistory (held_after (lookup (same_key key.now) self.now.meetings.entries) more.now) after
-            → Refreshes (address_octets self.now.address) adds before after (claims_said claims.now) now (octets_in taken.refresh)) }
+            → RepresentsHistory (held_after (lookup (same_key key.now) self.now.meetings.entries) parts.now) after
+            → Refreshes (address_octets self.now.address) adds before after (claims_said claims.now) now (refresh_octets done.1)) }
     {
-        keys_differ(&self.meetings);
-        let held = held_with(self.meetings.get(key), more);
-        let settled = self.settled(key, first, claims, &held, now)?;
-        let answers = self.answers_before(key);
-        let reply = reply_to(
-            self.alloc,
-            &self.address,
+        let Some(first) = claims.first() else {
+            unreachable!()
+        };
+        let before = self.meetings.get(key);
+        let held = held_with(before, parts);
+        let slots = slots_of(self.alloc, claims)?;
+        let views = Views {
+            alloc: self.alloc,
+            before,
+            after: &held,
             claims,
-            &held,
-            answers,
-            &settled.changes,
-        )?;
-        let refresh = self.refresh_of(key, claims, adds, &held, now)?;
-        let Settled {
-            changes,
-            gone,
-            added,
-            kind,
-        } = settled;
-        Ok(Taken {
-            changes,
-            gone,
-            added,
+            part: &first.part,
+            slots: &slots,
+        };
+        let decided = self.settled(key, &views, now)?;
+        let kind = views.kind_of(&decided.outcome)?;
+        let reply = reply_to(&self.address, &views, &decided.changes)?;
+        let refresh = refresh_to(&self.address, &views, adds, now)?;
+        let answer = Answer {
             kind,
             reply,
             refresh,
-        })
-    }
-
-    /// The REFRESH after a message with these claims, that adds instances or doesn't, where this is held of their meeting after it; None
-    /// where the whole of it isn't wanted.
-    fn refresh_of(
-        &self,
-        key: &MeetingKey,
-        claims: &[Claim],
-        adds: bool,
-        held: &Together<'_>,
-        moment: Stamp,
-    ) -> Result<Option<Vec<u8>>, AllocError>
-        ensures { IfOk result (λ refresh. (before after : List revisions.Part) → HasHistory (lookup (same_key key.now) self.now.meetings.entries) before → RepresentsHistory held.now after
-            → Refreshes (address_octets self.now.address) adds before after (claims_said claims.now) moment (octets_in refresh)) }
-    {
-        if !adds {
-            return Ok(None);
-        }
-        keys_differ(&self.meetings);
-        let views = Views {
-            before: self.meetings.get(key),
-            after: held,
         };
-        let Some(claim) = views.unheard(claims) else {
-            return Ok(None);
-        };
-        let octets = refresh_to(self.alloc, &self.address, &claim.part, moment)?;
-        Ok(Some(octets))
+        Ok((decided, answer))
     }
 
     /// The answers that a meeting has; none where nothing of it was ever taken.
-    fn answers_before(&self, key: &MeetingKey) -> &[PartAnswer]
+    pub(crate) fn answers_before(&self, key: &MeetingKey) -> &[PartAnswer]
         ensures are { result.now ≡ answers_by (lookup (same_key key.now) self.now.meetings.entries) }
         ensures by_slot { AreAnswersBySlot result.now }
     {
@@ -391,222 +328,91 @@ impl Room {
         }
     }
 
-    /// What becomes of the answers of a meeting by these claims, with which this is held of it; the part is the first one's.
+    /// What is decided of the claims of a message to this meeting.
     fn settled(
         &self,
         key: &MeetingKey,
-        first: &Part,
-        claims: &[Claim],
-        held: &Together<'_>,
+        views: &Views<'_>,
         now: Stamp,
-    ) -> Result<Settled, AllocError>
-        requires some { 0 < length claims.now }
+    ) -> Result<Decided, AllocError>
+        requires some { 0 < length views.now.claims.now }
+        requires before { option_copied views.now.before ≡ lookup (same_key key.now) self.now.meetings.entries }
         requires held { (history : List revisions.Part) → HasHistory (lookup (same_key key.now) self.now.meetings.entries) history
-            → RepresentsHistory held.now (history ++ parts_said claims.now) }
-        ensures after { IfOk result (λ settled. IsKeyOf (part_of first.now).organiser (part_of first.now).uid key.now
-            → AreFitting key.now (claims_said claims.now)
-            → (book : Book) → Represents self.now.meetings.entries book → (meeting : Meeting) → IsMadeOf held.now (answers_then (answers_by (lookup (same_key key.now) self.now.meetings.entries)) settled.changes) meeting
-            → IsMeetingAfter book key.now (claims_said claims.now) now (kind_view settled.kind) meeting) }
-        ensures shifts { IfOk result (λ settled.
-            Shifts (singles_by (lookup (same_key key.now) self.now.meetings.entries)) settled.gone.items settled.added.items
-            (all_singles (answers_then (answers_by (lookup (same_key key.now) self.now.meetings.entries)) settled.changes))) }
-        ensures joins { IfOk result (λ settled.
-            MayJoin (others key.now self.now.meetings.entries) key.now (all_singles (answers_then (answers_by (lookup (same_key key.now) self.now.meetings.entries)) settled.changes))) }
-        ensures recurs { IfOk result (λ settled.
-            MayJoinAll (beside key.now self.now.meetings.entries) key.now (answers_then (answers_by (lookup (same_key key.now) self.now.meetings.entries)) settled.changes)) }
+            → RepresentsHistory views.now.after.now (history ++ parts_said views.now.claims.now) }
+        ensures after { IfOk result (λ decided. is_of_meeting key.now (part_of views.now.part.now) ≡ true
+            → AreFitting key.now (claims_said views.now.claims.now)
+            → (book : Book) → Represents self.now.meetings.entries book → (meeting : Meeting)
+            → IsMadeOf views.now.after.now (answers_then (answers_by (lookup (same_key key.now) self.now.meetings.entries)) decided.changes) meeting
+            → (kind : Kind) → IsKindIn (option_copied views.now.before) views.now.after.now views.now.claims.now decided.outcome kind
+            → IsMeetingAfter book key.now (claims_said views.now.claims.now) now (kind_view kind) meeting) }
+        ensures shifts { IfOk result (λ decided.
+            Shifts (singles_by (lookup (same_key key.now) self.now.meetings.entries)) decided.gone.items decided.added.items
+            (all_singles (answers_then (answers_by (lookup (same_key key.now) self.now.meetings.entries)) decided.changes))) }
+        ensures joins { IfOk result (λ decided.
+            MayJoin (others key.now self.now.meetings.entries) key.now (all_singles (answers_then (answers_by (lookup (same_key key.now) self.now.meetings.entries)) decided.changes))) }
+        ensures recurs { IfOk result (λ decided.
+            MayJoinAll (beside key.now self.now.meetings.entries) key.now (answers_then (answers_by (lookup (same_key key.now) self.now.meetings.entries)) decided.changes)) }
     {
+        // Only for the proof: no two meetings have one name.
         keys_differ(&self.meetings);
-        let views = Views {
-            before: self.meetings.get(key),
-            after: held,
-        };
-        let slots = slots_of(self.alloc, claims)?;
-        let AnswersKept { lost, left, gone } = views.kept(self.alloc, first, &slots)?;
-        let asked = views.asked(self.alloc, claims)?;
-        let answered = self.answers_after(key, held, lost, left, &asked, &gone, now)?;
-        let kind = views.kind_of(claims, &answered.outcome)?;
-        Ok(Settled {
-            changes: answered.changes,
-            gone,
-            added: answered.added,
-            kind,
-        })
+        let change = views.change()?;
+        let asked = views.asked()?;
+        let decided = self.answers_after(key, views.after, change, &asked, now)?;
+        Ok(decided)
     }
 
-    /// The answers that stay, where those of these slots are lost, this is left of them and these instances are gone, and the answers to the
-    /// claims that are asked: one decision for all of them.
+    /// The answers that stay, and those to the claims that are asked: one decision for all of them. This is held of the meeting after it.
     fn answers_after(
         &self,
         key: &MeetingKey,
         held: &Together<'_>,
-        lost: Vec<Slot>,
-        left: Vec<PartAnswer>,
+        change: Change,
         asked: &[&Claim],
-        gone: &[Single],
         now: Stamp,
-    ) -> Result<Answered, AllocError>
-        requires rises { IsSortedByKey slot_of slot_cmp lost.items }
-        requires parted { IsPartedInto (singles_by (lookup (same_key key.now) self.now.meetings.entries)) gone.now (all_singles (kept_then (lookup (same_key key.now) self.now.meetings.entries) lost.items left.items)) }
-        requires less { AreFewer (series_by (lookup (same_key key.now) self.now.meetings.entries)) (all_series (kept_then (lookup (same_key key.now) self.now.meetings.entries) lost.items left.items)) }
-        ensures answered { IfOk result (λ answered. AreAnswersDecided (beside key.now self.now.meetings.entries) key.now held.now now
-            (kept_then (lookup (same_key key.now) self.now.meetings.entries) lost.items left.items) asked.now (answers_then (answers_by (lookup (same_key key.now) self.now.meetings.entries)) answered.changes) answered.outcome) }
-        ensures added { IfOk result (λ answered. IsPartedInto (all_singles (answers_then (answers_by (lookup (same_key key.now) self.now.meetings.entries)) answered.changes)) (all_singles (kept_then (lookup (same_key key.now) self.now.meetings.entries) lost.items left.items)) answered.added.items) }
-        ensures joins { IfOk result (λ answered.
-            MayJoin (others key.now self.now.meetings.entries) key.now (all_singles (answers_then (answers_by (lookup (same_key key.now) self.now.meetings.entries)) answered.changes))) }
-        ensures recurs { IfOk result (λ answered.
-            MayJoinAll (beside key.now self.now.meetings.entries) key.now (answers_then (answers_by (lookup (same_key key.now) self.now.meetings.entries)) answered.changes)) }
+    ) -> Result<Decided, AllocError>
+        requires parted { IsPartedInto (singles_by (lookup (same_key key.now) self.now.meetings.entries)) change.gone.items (all_singles (kept_then (lookup (same_key key.now) self.now.meetings.entries) change.lost.items change.left.items)) }
+        requires less { AreFewer (series_by (lookup (same_key key.now) self.now.meetings.entries)) (all_series (kept_then (lookup (same_key key.now) self.now.meetings.entries) change.lost.items change.left.items)) }
+        ensures gone { IfOk result (λ decided. decided.gone ≡ change.gone) }
+        ensures answered { IfOk result (λ decided. AreAnswersDecided (beside key.now self.now.meetings.entries) key.now held.now now
+            (kept_then (lookup (same_key key.now) self.now.meetings.entries) change.lost.items change.left.items) asked.now (answers_then (answers_by (lookup (same_key key.now) self.now.meetings.entries)) decided.changes) decided.outcome) }
+        ensures added { IfOk result (λ decided. IsPartedInto (all_singles (answers_then (answers_by (lookup (same_key key.now) self.now.meetings.entries)) decided.changes)) (all_singles (kept_then (lookup (same_key key.now) self.now.meetings.entries) change.lost.items change.left.items)) decided.added.items) }
+        ensures joins { IfOk result (λ decided.
+            MayJoin (others key.now self.now.meetings.entries) key.now (all_singles (answers_then (answers_by (lookup (same_key key.now) self.now.meetings.entries)) decided.changes))) }
+        ensures recurs { IfOk result (λ decided.
+            MayJoinAll (beside key.now self.now.meetings.entries) key.now (answers_then (answers_by (lookup (same_key key.now) self.now.meetings.entries)) decided.changes)) }
     {
+        // Only for the proof: no two meetings have one name.
         keys_differ(&self.meetings);
         if asked.is_empty() {
-            return Ok(Answered {
+            let Change { lost, left, gone } = change;
+            return Ok(Decided {
                 changes: Changes::of(self.alloc, lost, left)?,
+                gone,
                 added: Vec::new(self.alloc),
                 outcome: None,
             });
         }
         let candidates = candidates(self.alloc, held, asked, now)?;
-        let outcome = self.decide(key, gone, &lost, &left, &candidates)?;
+        let deciding = Deciding {
+            room: self,
+            key,
+            lost: &change.lost,
+            left: &change.left,
+            gone: &change.gone,
+        };
+        let outcome = deciding.decide(&candidates)?;
         let mut new = decided(self.alloc, candidates, &outcome)?;
         let added = singles_of(self.alloc, &new)?;
+        let Change { lost, left, gone } = change;
         let mut coming = left;
         coming.append(&mut new)?;
         let changes = Changes::of(self.alloc, lost, coming)?;
-        Ok(Answered {
+        Ok(Decided {
             changes,
+            gone,
             added,
             outcome: Some(outcome),
         })
-    }
-
-    /// What is decided of candidates beside what a meeting keeps, where the answers of these slots are lost, this is left of them and these of
-    /// its instances are gone, and beside all that the others have: the limit of series is looked at first, then that of singles.
-    fn decide(
-        &self,
-        key: &MeetingKey,
-        gone: &[Single],
-        lost: &[Slot],
-        left: &[PartAnswer],
-        candidates: &[PartAnswer],
-    ) -> Result<Outcome, AllocError>
-        requires rises { IsSortedByKey slot_of slot_cmp lost.now }
-        requires parted { IsPartedInto (singles_by (lookup (same_key key.now) self.now.meetings.entries)) gone.now (all_singles (kept_then (lookup (same_key key.now) self.now.meetings.entries) lost.now left.now)) }
-        requires less { AreFewer (series_by (lookup (same_key key.now) self.now.meetings.entries)) (all_series (kept_then (lookup (same_key key.now) self.now.meetings.entries) lost.now left.now)) }
-        ensures { IfOk result (IsWholeDecision (beside key.now self.now.meetings.entries) key.now (kept_then (lookup (same_key key.now) self.now.meetings.entries) lost.now left.now) candidates.now) }
-    {
-        keys_differ(&self.meetings);
-        let wanted = series_of(self.alloc, candidates)?;
-        let before = self.answers_before(key);
-        let kept = kept_series(self.alloc, before, lost, left)?;
-        let others = self.series - count_series(before);
-        if kept.len() + wanted.len() > MOST_SERIES - others {
-            return Ok(Outcome::Limit(LimitKind::Series));
-        }
-        let singles = singles_of(self.alloc, candidates)?;
-        let outcome = self.decide_singles(key, gone, &singles)?;
-        if !is_accept(&outcome) {
-            return Ok(outcome);
-        }
-        match self.clash_in_series(key, gone, &kept, &singles, &wanted)? {
-            Some(clash) => Ok(Outcome::Declined(clash)),
-            None => Ok(outcome),
-        }
-    }
-
-    /// What is decided of these instances beside those that a meeting keeps alone, where these are gone, and all that the others have so.
-    fn decide_singles(
-        &self,
-        key: &MeetingKey,
-        gone: &[Single],
-        wanted: &[Single],
-    ) -> Result<Outcome, AllocError>
-        requires parted { (kept : List Single) × IsPartedInto (singles_by (lookup (same_key key.now) self.now.meetings.entries)) gone.now kept }
-        ensures { IfOk result (λ outcome. (kept : List Single)
-            → IsPartedInto (singles_by (lookup (same_key key.now) self.now.meetings.entries)) gone.now kept
-            → IsDecision (others key.now self.now.meetings.entries) key.now kept wanted.now outcome) }
-    {
-        keys_differ(&self.meetings);
-        let beside = self.timeline.confirmed() - gone.len();
-        let outcome = decide(
-            self.alloc,
-            &self.meetings,
-            &self.timeline,
-            key,
-            beside,
-            gone,
-            wanted,
-        )?;
-        Ok(outcome)
-    }
-
-    /// A clash of two instances of which one is asked for, and one is of a series. The meeting keeps these series, and asks for these singles
-    /// and series.
-    fn clash_in_series<'a>(
-        &'a self,
-        key: &'a MeetingKey,
-        gone: &[Single],
-        kept: &[&'a Series],
-        singles: &[Single],
-        wanted: &[&'a Series],
-    ) -> Result<Option<Clash>, AllocError>
-        requires parted { (own : List Single) × IsPartedInto (singles_by (lookup (same_key key.now) self.now.meetings.entries)) gone.now own }
-        ensures { IfOk result (λ found. (own : List Single)
-            → IsPartedInto (singles_by (lookup (same_key key.now) self.now.meetings.entries)) gone.now own
-            → AreClearBeside (beside key.now self.now.meetings.entries) key.now own (map (λ one. one.now) kept.now) singles.now (map (λ one. one.now) wanted.now) found) }
-    {
-        let mut all = self.recurring_beside(key)?;
-        push_all(&mut all, key, kept)?;
-        let from = all.len();
-        push_all(&mut all, key, wanted)?;
-        let found = match single_beside(singles, &all) {
-            Some(shared) => Some(shared),
-            None => self.clash_of_new(key, gone, &all, from, wanted)?,
-        };
-        let Some(shared) = found else {
-            return Ok(None);
-        };
-        let clash = clash_between(key, shared.asked, shared.other, shared.booked)?;
-        Ok(Some(clash))
-    }
-
-    /// The series that the other meetings have confirmed.
-    fn recurring_beside(&self, key: &MeetingKey) -> Result<Vec<Recurring<'_>>, AllocError>
-        ensures { IfOk result (λ all. AreAllOf (other_recurring key.now self.now.meetings.entries) all.items) }
-    {
-        keys_differ(&self.meetings);
-        let own = self.meetings.get_index_of(key);
-        let mut all = Vec::new(self.alloc);
-        for place in &self.recurring {
-            if own == Some(*place) {
-                continue;
-            }
-            push_at(&mut all, &self.meetings, *place)?;
-        }
-        Ok(all)
-    }
-
-    /// Two instances that share an instant, one of them of a series that is asked for: these are the series from a place on.
-    fn clash_of_new<'a>(
-        &'a self,
-        key: &MeetingKey,
-        gone: &[Single],
-        all: &[Recurring<'a>],
-        from: usize,
-        wanted: &[&Series],
-    ) -> Result<Option<SharedInstant<'a>>, AllocError>
-        requires { from ≤ length all.now }
-        ensures { IfOk result (λ found. (own : List Single)
-            → IsPartedInto (singles_by (lookup (same_key key.now) self.now.meetings.entries)) gone.now own
-            → AreNewClear (others key.now self.now.meetings.entries ++ instance_list key.now own) all.now from (map (λ one. one.now) wanted.now) found) }
-    {
-        if wanted.is_empty() {
-            return Ok(None);
-        }
-        if let Some(shared) = clash_from(self.alloc, all, from)? {
-            return Ok(Some(shared));
-        }
-        let gone = Gone::of(self.alloc, gone)?;
-        let found = busy_beside_series(&self.meetings, &self.timeline, key, &gone, wanted);
-        Ok(found)
     }
 
     /// Puts more of a meeting in its place, and changes its answers; takes what is gone out of the timeline, and puts in what is added.
@@ -629,6 +435,7 @@ impl Room {
         ensures zone { self.new.zone ≡ self.old.zone }
         ensures err { OnErr result (IsUnchanged self.old.meetings self.new.meetings) }
     {
+        // Only for the proof: no two meetings have one name.
         keys_differ(&self.meetings);
         self.timeline.reserve(added.len())?;
         self.recurring.reserve(1)?;
@@ -650,25 +457,6 @@ fn series_in(meetings: &Meetings, place: usize) -> usize
         Some((_, meeting)) => count_series(&meeting.answers),
         None => 0,
     }
-}
-
-/// Puts the series of the meeting in a place after others.
-fn push_at<'a>(
-    all: &mut Vec<Recurring<'a>>,
-    meetings: &'a Meetings,
-    place: usize,
-) -> Result<(), AllocError>
-    ensures { OnOk result (map recurring_said all.new.items ≡ map recurring_said all.old.items ++ recurring_at meetings.now.entries place) }
-{
-    let Some((key, meeting)) = meetings.get_index(place) else {
-        return Ok(());
-    };
-    for given in answers_of(&meeting.answers, Slot::Whole) {
-        if let Some(series) = &given.series {
-            all.push(Recurring { key, series })?;
-        }
-    }
-    Ok(())
 }
 
 /// Puts a place among others, or takes it out. There is room for it.

@@ -18,7 +18,6 @@ use crate::kept::Meeting;
 use crate::meeting::PartAnswer;
 use crate::reply::recurrence_of;
 use crate::slots::{is_touched, put_in_order};
-use crate::taking::is_accept;
 use cal_events::Calendar;
 use cal_zones::RoomZone;
 use clash_cert::certificate_written;
@@ -34,6 +33,15 @@ pub struct KeptTexts {
     pub certificate: Vec<u8>,
 }
 
+/// How a part in the view is kept.
+#[derive(Clone, Copy)]
+struct Keeping {
+    /// It is confirmed, and so shown.
+    shown: bool,
+    /// The whole of its meeting is: a part that isn't shown hides an instance of it.
+    hides: bool,
+}
+
 /// The kept calendar of a room of this zone, which it names where that isn't UTC; the meetings in order of first arrival: each accepted part in the
 /// view, and what hides instances of an accepted whole.
 pub(crate) fn calendar_of(
@@ -45,6 +53,7 @@ pub(crate) fn calendar_of(
     ensures { IfOk result (λ text. (book : Book) → Represents meetings.now.entries book
         → IsKeptCalendar (address_octets room.now) (words_of zone.now) book text.items) }
 {
+    // Only for the proof: no two meetings have one name.
     keys_differ(meetings);
     // the zones go first, and are known last
     let mut zones = Zones::new(alloc);
@@ -114,7 +123,7 @@ fn write_meeting(
     let hides = is_touched(&accepted, Slot::Whole);
     for part in meeting.held.view() {
         let shown = is_touched(&accepted, part.slot);
-        write_kept(object, zones, part, shown, hides, room)?;
+        write_kept(object, zones, part, Keeping { shown, hides }, room)?;
     }
     Ok(())
 }
@@ -124,18 +133,17 @@ fn write_kept(
     object: &mut ObjectWriter,
     zones: &mut Zones,
     part: &Part,
-    shown: bool,
-    hides: bool,
+    keeping: Keeping,
     room: &Address,
 ) -> Result<(), AllocError>
     ensures { OnOk result
-        (WritesEntries (address_octets room.now) (kept_entry_of hides shown (part_of part.now)) zones.old zones.new object.old object.new) }
+        (WritesEntries (address_octets room.now) (kept_entry_of keeping.hides keeping.shown (part_of part.now)) zones.old zones.new object.old object.new) }
 {
-    if shown {
+    if keeping.shown {
         return write_part(object, zones, part, room);
     }
     match part.slot {
-        Slot::At(_) if hides => write_hidden(object, part, room),
+        Slot::At(_) if keeping.hides => write_hidden(object, part, room),
         _ => Ok(()),
     }
 }
@@ -146,7 +154,7 @@ fn slots_accepted(alloc: Global, answers: &[PartAnswer]) -> Result<Vec<Slot>, Al
 {
     let mut slots = Vec::new(alloc);
     for given in answers {
-        if is_accept(&given.outcome) {
+        if given.outcome.is_accept() {
             slots.push(given.slot)?;
         }
     }

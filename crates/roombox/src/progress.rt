@@ -19,7 +19,7 @@ pub struct Progress<'a, R, F: Folder + Drop> {
 }
 
 impl<'a, R: Eprint, F: Folder + Drop> Progress<'a, R, F> {
-    /// The same inbox, of which nothing is read yet.
+    /// An inbox of which nothing is read yet.
     pub fn new(to: &'a R, inbox: F) -> Progress<'a, R, F> {
         Progress {
             to,

@@ -162,7 +162,7 @@ pub(crate) fn say_output<R: Runtime + AllocGlobal>(
     status
 }
 
-/// The same of a command that reads a stream; and where the stream's preamble is refused, or doesn't name the room that is asked for, why.
+/// Says why a command that reads a stream ended as it did; and where the stream's preamble is refused, or doesn't name the room that is asked for, why.
 pub(crate) fn say_reasons<R: Runtime + AllocGlobal, D: Read + Drop>(
     rt: &R,
     alloc: Global,

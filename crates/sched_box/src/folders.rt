@@ -378,7 +378,7 @@ pub fn run_box<I: Folder, O: Folder>(
     run_box_telling(alloc, inbox, outbox, config, &mut Nobody)
 }
 
-/// The same, and tells of each object of each file what became of it, before the answers to the file are published.
+/// Runs a box as `run_box` does, and tells of each object of each file what became of it, before the answers to the file are published.
 pub fn run_box_telling<I: Folder, O: Folder, J: Journal>(
     alloc: Global,
     inbox: &mut I,

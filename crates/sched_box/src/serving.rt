@@ -52,7 +52,7 @@ pub fn serve_stream<R: Input, W: Output>(
     serve_stream_telling(alloc, reader, writer, &mut Nobody)
 }
 
-/// The same, and tells of each object what became of it, after its answers are written.
+/// Serves a stream as `serve_stream` does, and tells of each object what became of it, after its answers are written.
 pub fn serve_stream_telling<R: Input, W: Output, J: Journal>(
     alloc: Global,
     reader: &mut R,
@@ -101,7 +101,7 @@ pub fn serve<R: Input, W: Output>(
     serve_telling(alloc, config, reader, writer, now, &mut Nobody)
 }
 
-/// The same, and tells of each object what became of it.
+/// Serves the objects of a stream, and tells of each what became of it.
 fn serve_telling<R: Input, W: Output, J: Journal>(
     alloc: Global,
     config: &Config,

@@ -226,7 +226,7 @@ pub(crate) fn contains(hosts: &[Address], address: &Address) -> bool
     has_address(hosts, address)
 }
 
-/// The same, as a test.
+/// Whether an address is one of those of the hosts.
 fn has_address(hosts: &[Address], address: &Address) -> bool
     ensures { result ≡ list_any (λ hosted. bytes_eq (address_octets hosted) (address_octets address.now)) hosts.now }
 {

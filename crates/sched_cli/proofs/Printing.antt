@@ -1,5 +1,5 @@
 -- What `expand` prints, put together.
-use Rattle.std.proofs.Common.{◌≡◌, ◌∙◌, ap, sym, refl, subst, inl, inr, ◌⊎◌, ℕ, suc, ◌+◌, ◌-◌, ◌<◌, slice_range, take, drop, length, take_all, List, [], ◌∷◌, ◌++◌, append_assoc, append-nil, length-append, decimal, arith, ℤ, pos, negsuc, ◌+ℤ◌, ◌-ℤ◌, ◌<ℤ◌, ◌≤ℤ◌, unsigned_abs}
+use Rattle.std.proofs.Common.{◌≡◌, ◌∙◌, ap, sym, refl, subst, inl, inr, ◌⊎◌, ℕ, suc, ◌+◌, ◌-◌, ◌<◌, slice_range, get_or, take, drop, length, take_all, List, [], ◌∷◌, ◌++◌, append_assoc, append-nil, length-append, decimal, arith, ℤ, pos, negsuc, ◌+ℤ◌, ◌-ℤ◌, ◌<ℤ◌, ◌≤ℤ◌, unsigned_abs}
 use Rattle.std.specs.Prelude.{Option, Some, None, Contains}
 use Rattle.std.specs.List.{AllZip, concat}
 use Rattle.std.specs.Io.KnownBytes.{Appends}
@@ -19,7 +19,7 @@ use Rattle.cal_events.specs.Calendar.{instance_of}
 use Rattle.cal_events.specs.Instances.{IsAfter, IsPastSlot}
 use Rattle.cal_events.specs.Left.{IsLeft, GivesFirst}
 use Rattle.cal_events.specs.MeetingComponents.{IsInEventDates}
-use Rattle.cal_events.specs.Event.{said_meeting}
+use Rattle.cal_events.specs.Event.{AreAlike, said_meeting}
 use Rattle.cal_events.specs.declared.instance.Instance.{Instance}
 use Rattle.cal_events.specs.declared.instances.Bound.{Bound}
 use Rattle.cal_events.specs.declared.instances.Instances.{Instances}
@@ -236,18 +236,20 @@ lines_there (b ∷ bs) [] has h = absurd h
 lines_there (b ∷ bs) (l ∷ ls) has h =
     (h.0 (has b (0, omega arith, refl)), lines_there bs ls (λ a c. has a (suc c.0, omega (arith, c.1), c.2)) h.1)
 
-pub expanded : OneInstance → AreDated → (words : List ℕ) (room : Option Zone) (octets : List ℕ) (meeting : Event) (limit : ℕ) (a b : Option (List ℕ)) → IsRoomZone words room → SpellsEvent room octets meeting → PrintsFirst meeting limit a b [] → ExpandsTo room octets limit a b
-expanded one dated words room octets meeting limit a b named spelled p = (
+-- an event that was read takes place as the one that they spell
+pub expanded : OneInstance → AreDated → (words : List ℕ) (room : Option Zone) (octets : List ℕ) (kept meeting : Event) (limit : ℕ) (a b : Option (List ℕ)) → IsRoomZone words room → SpellsEvent room octets meeting
+    → AreAlike kept meeting → PrintsFirst kept limit a b [] → ExpandsTo room octets limit a b
+expanded one dated words room octets kept meeting limit a b named spelled alike p = (
   written,
   record {
     meeting = meeting;
     spelled = spelled;
     instances = p.instances;
     first = record {
-      each = p.first.each;
+      each = λ k d w. (alike (get_or p.instances k d)).0 (p.first.each k d w);
       ordered = p.first.ordered;
       short = p.first.short;
-      others = λ x is. elim (p.first.others x is (has x is)) [
+      others = λ x is. elim (p.first.others x ((alike x).1 is) (has x is)) [
         | inl (y, c, q, r) ↦ inl (subst (Contains p.instances) (one words room octets meeting y x named spelled (its y c) is q r) c)
         | inr h ↦ inr h
       ];
@@ -263,7 +265,7 @@ expanded one dated words room octets meeting limit a b named spelled p = (
     written = p.written.0
 
     its : (x : SaidInstance) → Contains p.instances x → IsInstance meeting x
-    its x c = All-contains (IsInstance meeting) p.instances x p.first.each c
+    its x c = (alike x).0 (All-contains (IsInstance kept) p.instances x p.first.each c)
 
     has : (x : SaidInstance) → IsInstance meeting x → HasLine x
     has x is =

@@ -1,7 +1,8 @@
 -- What is said of objects that came to nothing.
-use Rattle.std.specs.Prelude.{◌≡◌, ◌⊎◌, ℕ, ◌+◌, ◌/◌, ◌%◌, ◌==◌, Bool, true, false, not, ◌&&◌, nat_lt, nat_le, if◌then◌else◌, List, [], ◌∷◌, ◌++◌, length, take, codes, decimal, Option, Some, None}
+use Rattle.std.specs.Prelude.{◌≡◌, ◌⊎◌, ℕ, ◌==◌, Bool, true, false, not, ◌&&◌, nat_lt, nat_le, if◌then◌else◌, List, [], ◌∷◌, ◌++◌, length, take, codes, decimal, Option, Some, None}
 use Rattle.std.specs.List.{flat_map}
 use Rattle.std.specs.Io.KnownBytes.{Appends}
+use Rattle.percent_encoding.specs.Percent.{percent_encode_byte}
 use Rattle.profile.specs.streams.Reports.{Fate, Refused, Unreached, Stale, Repeated, Taken}
 use Rattle.sched_devices.specs.declared.output.WriteFault.{WriteFault}
 use Rattle.sched_devices.specs.declared.output.WriteFault.TheVariants.{Failed, Memory}
@@ -14,13 +15,9 @@ is_shown octet = nat_le 32 octet && nat_le octet 126
 abbrev pub is_printed_plain : ℕ → Bool
 is_printed_plain octet = is_shown octet && not (octet == 37)
 
--- the hexadecimal digit of a number below 16
-abbrev pub hex_digit : ℕ → ℕ
-hex_digit n = if nat_lt n 10 then 48 + n else (if nat_lt n 16 then 55 + n else 70)
-
--- each other octet as `%` and two hexadecimal digits
+-- each other octet as `%` and two hexadecimal digits (RFC 3986 2.1)
 abbrev pub shown_octet : ℕ → List ℕ
-shown_octet octet = if is_printed_plain octet then octet ∷ [] else (37 ∷ hex_digit (octet / 16) ∷ hex_digit (octet % 16) ∷ [])
+shown_octet octet = if is_printed_plain octet then octet ∷ [] else percent_encode_byte octet
 
 abbrev pub shown : List ℕ → List ℕ
 shown octets = flat_map shown_octet octets

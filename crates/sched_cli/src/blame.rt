@@ -1,11 +1,12 @@
 //! Whether a content line of an object has the fault that a number names.
-ghost use Rattle.std.specs.Prelude.{◌≡◌, ◌||◌, codes, IfOk, IfErr, OnOk};
+ghost use Rattle.std.specs.Prelude.{◌≡◌, Some, IfOk, IfErr, OnOk};
 ghost use Rattle.ical_lines.specs.Fault.{RefusesBy};
 ghost use Rattle.ical_lines.specs.Text.{line_text};
-ghost use Rattle.sched_cli.specs.Blame.{HasAlone, IsBlame, IsRight, IsRightInZone, IsSound, IsWrong, IsWrongInZone, blame_within, can_have, can_have_in_calendar, can_have_in_event, event_property, has_name, zone_property};
-ghost use Rattle.sched_cli.specs.declared.blame.Property.TheVariants.{Slot, Times};
+ghost use Rattle.profile.specs.events.EventComponents.{RDATE, RECURRENCE-ID};
+ghost use Rattle.cal_events.specs.Property.{property_said};
+ghost use Rattle.sched_cli.specs.Blame.{HasAlone, IsBlame, IsRight, IsRightInZone, IsSound, IsWrong, IsWrongInZone, blame_within, can_have, can_have_in_calendar, can_have_in_event, is_of_end, may_have, property_of, zone_property};
 
-use cal_events::judge_time;
+use cal_events::{Property, judge_time};
 use cal_rules::RuleText;
 use ical_lines::{Fault, Line, Refusal};
 use ical_values::{Address, Duration, LocalTime, Sequence, Stamp, Text, UtcOffset};
@@ -33,26 +34,11 @@ pub(crate) enum Within {
     Elsewhere,
 }
 
-/// A property by what is read of its value.
+/// A property of STANDARD or DAYLIGHT by what is read of its value.
 #[derive(Clone, Copy)]
-enum Property {
-    Uid,
-    /// ORGANIZER, ATTENDEE.
-    Party,
-    /// DTSTAMP.
-    Moment,
-    /// SEQUENCE.
-    Count,
-    /// DURATION.
-    Length,
-    /// RRULE.
-    Rule,
-    /// RECURRENCE-ID.
-    Slot,
-    /// One time.
-    Time,
-    /// RDATE, EXDATE.
-    Times,
+enum ZoneProperty {
+    /// DTSTART.
+    Start,
     /// TZOFFSETFROM, TZOFFSETTO.
     Offset,
     Other,
@@ -103,92 +89,77 @@ fn judge_of_zone(line: Line<'_>) -> Result<(), Refusal>
     ensures fault { IfErr result (λ e. IsWrongInZone (zone_property (line_text line.entry)) (line_text line.entry) e.number) }
 {
     match zone_property(line) {
-        Property::Time => {
+        ZoneProperty::Start => {
             LocalTime::read(line.value())?;
         }
-        Property::Offset => {
+        ZoneProperty::Offset => {
             UtcOffset::read(line.value())?;
         }
-        _ => {}
+        ZoneProperty::Other => {}
     }
     Ok(())
 }
 
-fn zone_property(line: Line<'_>) -> Property
+fn zone_property(line: Line<'_>) -> ZoneProperty
     ensures { result ≡ zone_property (line_text line.entry) }
 {
     if line.is_named("DTSTART") {
-        Property::Time
+        ZoneProperty::Start
     } else if line.is_named("TZOFFSETFROM") || line.is_named("TZOFFSETTO") {
-        Property::Offset
+        ZoneProperty::Offset
     } else {
-        Property::Other
+        ZoneProperty::Other
     }
 }
 
 /// Of VEVENT (RFC 5545 3.6.1).
 fn judge_of_event(alloc: Global, line: Line<'_>) -> Result<(), Fault>
-    ensures sound { OnOk result (IsRight (event_property (line_text line.entry)) (line_text line.entry)) }
-    ensures fault { IfErr result (RefusesBy (IsWrong (event_property (line_text line.entry)) (line_text line.entry))) }
+    ensures sound { OnOk result (IsRight (property_of (line_text line.entry)) (line_text line.entry)) }
+    ensures fault { IfErr result (RefusesBy (IsWrong (property_of (line_text line.entry)) (line_text line.entry))) }
+{
+    match Property::named(line) {
+        Some(property) => judge_property(alloc, property, line),
+        None => Ok(()),
+    }
+}
+
+/// The value of a line as one of a property, by its reader.
+fn judge_property(alloc: Global, property: Property, line: Line<'_>) -> Result<(), Fault>
+    ensures sound { OnOk result (IsRight (Some (property_said property)) (line_text line.entry)) }
+    ensures fault { IfErr result (RefusesBy (IsWrong (Some (property_said property)) (line_text line.entry))) }
 {
     let value = line.value();
-    match event_property(line) {
+    match property {
         Property::Uid => {
             Text::read_uid(alloc, value)?;
         }
-        Property::Party => {
+        Property::Organizer | Property::Attendee => {
             Address::read(alloc, value)?;
         }
-        Property::Moment => {
+        Property::Dtstamp => {
             Stamp::read(value)?;
         }
-        Property::Count => {
+        Property::Sequence => {
             Sequence::read(value)?;
         }
-        Property::Length => {
+        Property::Duration => {
             Duration::read(value)?;
         }
-        Property::Rule => {
+        Property::Rrule => {
             RuleText::read(alloc, value)?;
         }
-        Property::Slot => judge_slot(line)?,
-        Property::Time => judge_time(line, value)?,
-        Property::Times => judge_times(line)?,
-        Property::Offset | Property::Other => {}
+        Property::RecurrenceId => judge_slot(line)?,
+        Property::Dtstart | Property::Dtend => judge_time(line, value)?,
+        Property::Rdate | Property::Exdate => judge_times(line)?,
+        Property::Status | Property::Summary => {}
     }
     Ok(())
 }
 
-fn event_property(line: Line<'_>) -> Property
-    ensures { result ≡ event_property (line_text line.entry) }
-{
-    if line.is_named("UID") {
-        Property::Uid
-    } else if line.is_named("ORGANIZER") || line.is_named("ATTENDEE") {
-        Property::Party
-    } else if line.is_named("DTSTAMP") {
-        Property::Moment
-    } else if line.is_named("SEQUENCE") {
-        Property::Count
-    } else if line.is_named("DURATION") {
-        Property::Length
-    } else if line.is_named("RRULE") {
-        Property::Rule
-    } else if line.is_named("RECURRENCE-ID") {
-        Property::Slot
-    } else if line.is_named("DTSTART") || line.is_named("DTEND") {
-        Property::Time
-    } else if line.is_named("RDATE") || line.is_named("EXDATE") {
-        Property::Times
-    } else {
-        Property::Other
-    }
-}
-
 /// Of RECURRENCE-ID: RANGE is judged before its value.
 fn judge_slot(line: Line<'_>) -> Result<(), Refusal>
-    ensures sound { OnOk result (IsRight Slot (line_text line.entry)) }
-    ensures fault { IfErr result (λ e. IsWrong Slot (line_text line.entry) e.number) }
+    ensures sound { OnOk result (IsRight (Some RECURRENCE-ID) (line_text line.entry)) }
+    ensures fault { IfErr result (λ e. IsWrong (Some RECURRENCE-ID) (line_text line.entry) e.number) }
 {
     if line.param("RANGE").is_some() {
         return Err(Refusal::RANGE);
@@ -198,7 +169,7 @@ fn judge_slot(line: Line<'_>) -> Result<(), Refusal>
 
 /// Of RDATE and EXDATE, whose values are several times.
 fn judge_times(line: Line<'_>) -> Result<(), Refusal>
-    ensures { IfErr result (λ e. IsWrong Times (line_text line.entry) e.number) }
+    ensures { IfErr result (λ e. IsWrong (Some RDATE) (line_text line.entry) e.number) }
 {
     for text in line.value().split(',') {
         judge_time(line, text)?;
@@ -220,39 +191,59 @@ fn can_have(number: u8, within: Within, line: Line<'_>) -> bool
 fn can_have_in_calendar(number: u8, line: Line<'_>) -> bool
     ensures { result ≡ can_have_in_calendar number (line_text line.entry) }
 {
-    match number {
-        24 => line.is_named("VERSION"),
-        44 => line.is_named("X-ROOM-ZONE"),
-        60 => line.is_named("METHOD"),
-        _ => false,
+    if number == Refusal::BAD_VERSION.number {
+        line.is_named("VERSION")
+    } else if number == Refusal::ROOM_ZONE.number {
+        line.is_named("X-ROOM-ZONE")
+    } else if number == Refusal::BAD_METHOD.number {
+        line.is_named("METHOD")
+    } else {
+        false
     }
 }
 
 fn can_have_in_event(number: u8, line: Line<'_>) -> bool
     ensures { result ≡ can_have_in_event number (line_text line.entry) }
 {
-    match number {
-        34 => line.is_named("RRULE"),
-        43 => line.param("TZID").is_some(),
-        50 => line.is_named("DTEND"),
-        51 => line.is_named("DTEND") || line.is_named("DURATION"),
-        52 => is_time(line) || line.is_named("RDATE"),
-        57 => is_of_form(line),
-        67 => line.is_named("RRULE") || line.is_named("RDATE"),
+    if number == Refusal::NO_ZONE.number {
+        return line.param("TZID").is_some();
+    }
+    match Property::named(line) {
+        Some(property) => may_have(number, property),
+        None => false,
+    }
+}
+
+/// Whether a line of a property of a VEVENT can have the fault of this number together with others.
+fn may_have(number: u8, property: Property) -> bool
+    ensures { result ≡ may_have number (property_said property) }
+{
+    match property {
+        Property::Rrule => {
+            number == Refusal::START_OUTSIDE_RULE.number
+                || number == Refusal::RECURRING_INSTANCE.number
+        }
+        Property::Rdate => {
+            number == Refusal::OUT_OF_DATES.number || number == Refusal::RECURRING_INSTANCE.number
+        }
+        Property::Dtstart => number == Refusal::OUT_OF_DATES.number,
+        Property::RecurrenceId => {
+            number == Refusal::OUT_OF_DATES.number || number == Refusal::OTHER_FORM.number
+        }
+        Property::Duration => {
+            number == Refusal::LONG_OR_NEGATIVE.number || number == Refusal::OTHER_FORM.number
+        }
+        Property::Dtend => is_of_end(number),
         _ => false,
     }
 }
 
-/// Whether the value of a line is one time.
-fn is_time(line: Line<'_>) -> bool
-    ensures { result ≡ (has_name (codes "DTSTART") (line_text line.entry) || has_name (codes "DTEND") (line_text line.entry) || has_name (codes "RECURRENCE-ID") (line_text line.entry)) }
+/// Whether DTEND can have it: it ends before the start, or too late, or outside of the dates, or doesn't go with its form.
+fn is_of_end(number: u8) -> bool
+    ensures { result ≡ is_of_end number }
 {
-    line.is_named("DTSTART") || line.is_named("DTEND") || line.is_named("RECURRENCE-ID")
-}
-
-/// Whether a line's value has to go with the form of another time, or to be fixed.
-fn is_of_form(line: Line<'_>) -> bool
-    ensures { result ≡ (has_name (codes "DTEND") (line_text line.entry) || has_name (codes "DURATION") (line_text line.entry) || has_name (codes "RECURRENCE-ID") (line_text line.entry)) }
-{
-    line.is_named("DTEND") || line.is_named("DURATION") || line.is_named("RECURRENCE-ID")
+    number == Refusal::END_BEFORE_START.number
+        || number == Refusal::LONG_OR_NEGATIVE.number
+        || number == Refusal::OUT_OF_DATES.number
+        || number == Refusal::OTHER_FORM.number
 }

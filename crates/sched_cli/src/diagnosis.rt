@@ -114,7 +114,7 @@ fn append_reason(
     append_help(alloc, text, octets)
 }
 
-/// The same, where no VTIMEZONE is in the way: the place, and a line with what is wrong with a VEVENT's properties, if that is it.
+/// Appends what is wrong where no VTIMEZONE is in the way: the place, and a line with what is wrong with a VEVENT's properties, if that is it.
 fn append_line(
     alloc: Global,
     text: &mut Vec<u8>,

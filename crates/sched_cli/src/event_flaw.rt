@@ -9,23 +9,10 @@ ghost use Rattle.sched_cli.specs.Obstacles.{text_of};
 use crate::obstacle::{first_line, second_line};
 use crate::place::{Place, Sought, Spot, place_of};
 use crate::refused_zone::{object_of, text_of};
+use cal_events::{Method, PROPERTIES, Property};
 use ical_lines::Refusal;
 use ical_tree::Component;
 use std::alloc::{AllocError, Global};
-
-/// The properties of a VEVENT that may occur once, in the order in which they are read.
-const SINGLE: [&str; 10] = [
-    "UID",
-    "ORGANIZER",
-    "DTSTAMP",
-    "SEQUENCE",
-    "STATUS",
-    "RECURRENCE-ID",
-    "DTSTART",
-    "DTEND",
-    "DURATION",
-    "RRULE",
-];
 
 /// What is wrong with a property.
 #[derive(Clone, Copy, PartialEq, Eq)]
@@ -57,7 +44,7 @@ pub(crate) struct EventFlaw<'a> {
     pub(crate) flaw: Flaw<'a>,
 }
 
-/// The same, with its places in the object.
+/// What is wrong with a component, with its places in the object.
 #[derive(Drop)]
 pub(crate) struct PlacedFlaw {
     pub(crate) kind: FlawKind,
@@ -112,54 +99,49 @@ fn first_flaw<'c>(object: &'c Component, number: u8) -> Option<EventFlaw<'c>>
     None
 }
 
-/// The value of METHOD, if there is one.
-fn method_of<'c>(object: &'c Component) -> Option<&'c str> {
-    let line = first_line(object, "METHOD")?;
-    Some(line.value())
+/// What METHOD says; without one it is a store. A word that names no method is refused before any VEVENT is looked at.
+fn method_of(object: &Component) -> Method {
+    match first_line(object, "METHOD") {
+        Some(line) => Method::named(line.value()).unwrap_or(Method::Store),
+        None => Method::Store,
+    }
 }
 
-/// What is wrong with a VEVENT of an object of this METHOD.
-fn flaw_of<'c>(event: &'c Component, method: Option<&str>, number: u8) -> Option<Flaw<'c>>
+/// What is wrong with a VEVENT of an object of this METHOD, where the object is refused with this number.
+fn flaw_of<'c>(event: &'c Component, method: Method, number: u8) -> Option<Flaw<'c>>
     ensures { IfSome result (λ flaw. IsFlaw (component_lines event.now) flaw) }
 {
     if number == Refusal::NO_ORGANIZER.number {
-        return flaw_in(event, "ORGANIZER", true);
+        return flaw_in(event, Property::Organizer, true);
     }
-    for property in SINGLE {
-        if let Some(flaw) = flaw_in(event, property, is_needed(property, method)) {
-            return Some(flaw);
+    for property in PROPERTIES {
+        if property.presence(Some(method)).is_single() {
+            let is_needed = is_needed(property, method);
+            if let Some(flaw) = flaw_in(event, property, is_needed) {
+                return Some(flaw);
+            }
         }
     }
     beside(event)
 }
 
-/// Whether a VEVENT of an object of this METHOD has to have a property.
-fn is_needed(property: &str, method: Option<&str>) -> bool {
-    match property {
-        "UID" => true,
-        "DTSTAMP" => method.is_some(),
-        "DTSTART" => !may_lack_start(method.unwrap_or("")),
-        _ => false,
-    }
-}
-
-fn may_lack_start(method: &str) -> bool {
-    method.eq_ignore_ascii_case("CANCEL")
-        || method.eq_ignore_ascii_case("REPLY")
-        || method.eq_ignore_ascii_case("REFRESH")
+/// Whether 61 is the number of a property that METHOD asks for, and that is missing; that of ORGANIZER is 63.
+fn is_needed(property: Property, method: Method) -> bool {
+    property != Property::Organizer && property.presence(Some(method)).is_once()
 }
 
 /// A property that is there twice, or that is needed and isn't there.
-fn flaw_in<'c>(event: &'c Component, property: &'static str, is_needed: bool) -> Option<Flaw<'c>>
+fn flaw_in<'c>(event: &'c Component, property: Property, is_needed: bool) -> Option<Flaw<'c>>
     ensures { IfSome result (λ flaw. IsFlaw (component_lines event.now) flaw) }
 {
-    if first_line(event, property).is_none() {
-        return Flaw::missing(property, is_needed);
+    let name = property.name();
+    if first_line(event, name).is_none() {
+        return Flaw::missing(name, is_needed);
     }
-    let line = second_line(event, property)?;
+    let line = second_line(event, name)?;
     Some(Flaw {
         kind: FlawKind::Twice,
-        property,
+        property: name,
         line: Some(line.text()),
     })
 }
@@ -168,11 +150,12 @@ fn flaw_in<'c>(event: &'c Component, property: &'static str, is_needed: bool) ->
 fn beside<'c>(event: &'c Component) -> Option<Flaw<'c>>
     ensures { IfSome result (λ flaw. IsFlaw (component_lines event.now) flaw) }
 {
-    first_line(event, "DTEND")?;
-    let line = first_line(event, "DURATION")?;
+    first_line(event, Property::Dtend.name())?;
+    let property = Property::Duration.name();
+    let line = first_line(event, property)?;
     Some(Flaw {
         kind: FlawKind::Beside,
-        property: "DURATION",
+        property,
         line: Some(line.text()),
     })
 }

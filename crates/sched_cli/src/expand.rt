@@ -73,7 +73,7 @@ fn print_event<W: Output>(
     Ok(())
 }
 
-/// The same, where the last of them may not be handed over yet.
+/// The lines of the first instances of an event, of which the last may not be handed over yet.
 fn print_first<W: Output>(
     event: &Event,
     limit: usize,

@@ -36,7 +36,7 @@ pub fn run_folders<I: Folder, O: Folder, E: Output>(
     run_folders_telling(alloc, config, inbox, outbox, &mut Nobody, errors)
 }
 
-/// The same, and tells of each object what became of it.
+/// Runs a box over its folders, and tells of each object what became of it.
 fn run_folders_telling<I: Folder, O: Folder, J: Journal, E: Output>(
     alloc: Global,
     config: &[u8],

@@ -104,7 +104,7 @@ fn refused_zone<'c, 'a>(
     Ok(None)
 }
 
-/// The same of the times of one VEVENT.
+/// The VTIMEZONE by which a time of one VEVENT is refused.
 fn refused_in_event<'c, 'a>(
     alloc: Global,
     event: &Component,
@@ -125,7 +125,7 @@ fn refused_in_event<'c, 'a>(
     Ok(None)
 }
 
-/// The same of one line. What isn't refused so is looked at once.
+/// The VTIMEZONE by which a time of one line is refused. What isn't refused so is looked at once.
 fn refused_by_line<'c, 'a>(
     alloc: Global,
     line: Line<'_>,

@@ -1,8 +1,9 @@
 //! Octets of others as they are shown on standard error: in printable ASCII, on one line, and not too many.
 
-ghost use Rattle.std.specs.Prelude.{◌≡◌, ◌++◌, ◌<◌, OnOk};
-ghost use Rattle.sched_cli.specs.Logging.{cut_shown, hex_digit, is_printed_plain, shown, shown_octet};
+ghost use Rattle.std.specs.Prelude.{◌≡◌, ◌++◌, OnOk};
+ghost use Rattle.sched_cli.specs.Logging.{cut_shown, is_printed_plain, shown, shown_octet};
 
+use percent_encoding::percent_encode_byte;
 use std::alloc::AllocError;
 
 /// The most octets of a value that are shown.
@@ -36,7 +37,7 @@ fn append_octet(line: &mut Vec<u8>, octet: u8) -> Result<(), AllocError>
     if is_printed_plain(octet) {
         line.extend_from_slice(&[octet])
     } else {
-        line.extend_from_slice(&[b'%', hex_digit(octet / 16), hex_digit(octet % 16)])
+        line.extend_from_slice(percent_encode_byte(octet).as_bytes())
     }
 }
 
@@ -45,16 +46,4 @@ fn is_printed_plain(octet: u8) -> bool
     ensures { result ≡ is_printed_plain octet }
 {
     octet >= b' ' && octet <= b'~' && octet != b'%'
-}
-
-/// The hexadecimal digit of a number below 16.
-fn hex_digit(value: u8) -> u8
-    requires { value < 16 }
-    ensures { result ≡ hex_digit value }
-{
-    if value < 10 {
-        b'0' + value
-    } else {
-        b'A' + (value - 10)
-    }
 }

@@ -111,7 +111,7 @@ impl<R: Read + Drop> DeviceReader<R> {
         })
     }
 
-    /// The same, with a buffer of this many octets, at least one: a buffer of none would show nothing of the device.
+    /// An input over a device with a buffer of this many octets, at least one: a buffer of none would show nothing of the device.
     /// Fails only where there is no memory for it.
     pub fn with_capacity(
         alloc: Global,

@@ -69,7 +69,7 @@ impl MemoryFile {
         !lost || self.is_name_synced
     }
 
-    /// The same file.
+    /// A copy of the file.
     fn copied(&self, alloc: Global) -> Result<MemoryFile, AllocError>
         ensures { IfOk result (λ file. file ≡ self.now) }
     {
@@ -83,7 +83,7 @@ impl MemoryFile {
         Ok(file)
     }
 
-    /// The same file once the folder is synced.
+    /// A copy of the file as it is once the folder is synced.
     fn name_synced(&self, alloc: Global) -> Result<MemoryFile, AllocError>
         ensures { IfOk result (λ file. file ≡ with_name_synced self.now) }
     {
@@ -146,7 +146,7 @@ pub(crate) fn names_of(alloc: Global, files: &[MemoryFile]) -> Result<Vec<String
     Ok(names)
 }
 
-/// The same files.
+/// Copies of files.
 pub(crate) fn copied(alloc: Global, files: &[MemoryFile]) -> Result<Vec<MemoryFile>, AllocError>
     ensures { IfOk result (λ copies. copies.items ≡ files.now) }
 {
@@ -157,7 +157,7 @@ pub(crate) fn copied(alloc: Global, files: &[MemoryFile]) -> Result<Vec<MemoryFi
     Ok(copies)
 }
 
-/// The same files, and one more.
+/// Copies of files, and one more.
 pub(crate) fn with_file(
     alloc: Global,
     files: &[MemoryFile],
@@ -170,7 +170,7 @@ pub(crate) fn with_file(
     Ok(all)
 }
 
-/// The same files once the folder is synced.
+/// Copies of files as they are once the folder is synced.
 pub(crate) fn names_synced(
     alloc: Global,
     files: &[MemoryFile],

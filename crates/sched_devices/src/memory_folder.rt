@@ -43,7 +43,7 @@ impl MemoryFolder {
         MemoryFolder::with_failures(alloc, 0)
     }
 
-    /// The same, which has failed so often before.
+    /// A folder that holds nothing, and has failed so often before.
     pub fn with_failures(alloc: Global, failures: u64) -> MemoryFolder
         ensures files { result.files.items ≡ [] }
         ensures temporary { result.temporary ≡ no_temporary }

@@ -24,7 +24,7 @@ pub struct AdaptedInbox<'c, 'a, F: Folder + Drop> {
 }
 
 impl<'c, 'a, F: Folder + Drop> AdaptedInbox<'c, 'a, F> {
-    /// The same inbox, behind the door.
+    /// An inbox, behind the door.
     pub fn new(listed: Option<&'c Component<'a>>, inbox: F) -> AdaptedInbox<'c, 'a, F>
         ensures listed { result.listed ≡ listed.entry }
         ensures inbox { result.inbox ≡ inbox }

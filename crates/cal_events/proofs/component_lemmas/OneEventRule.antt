@@ -13,7 +13,7 @@ use Rattle.profile.specs.series.RuleTexts.{SpellsRule, RuleFault, IsLeastRuleFau
 use Rattle.profile.specs.series.Zones.{Zone, IsOneMeaning, NoneFrom, IsLastDay}
 use Rattle.profile.specs.events.Properties.{Form, Fixed, Floating, WholeDay, BothOrNeither, SomeLine, lines_named}
 use Rattle.profile.specs.events.ZonedTimes.{SaysZonedTime, clock_of, is_in_zone, IsInDates, EventTimes, SaysEventTimes, SaysTimes}
-use Rattle.profile.specs.events.EventRules.{as_end, IsLastAllowed, AllowsNone, IsOnDay, GivesRule, IsRuleText, GivesBeside, SaysEventRule, IsOutsideRule, EventRuleFault, bad_rule, starts_outside, two_rules}
+use Rattle.profile.specs.events.EventRules.{as_end, IsLastAllowed, AllowsNone, IsOnDay, GivesRule, IsRuleText, GivesBeside, SaysEventRule, IsOutsideRule, EventRuleFault, bad_rule, starts_outside}
 use Rattle.ical_tree.proofs.OneLine.{IsFunctional, only_line}
 use Rattle.cal_events.proofs.shared_lemmas.OneTimes.{Lines, OneZonedTime, OneDuration, at_most_one, clock_one, one_times_by, clock_by, none_there}
 use Rattle.cal_events.proofs.component_lemmas.Said.{same_said, said_by}
@@ -147,11 +147,9 @@ module _ (zoned : OneZonedTime) (rules : OneRule) (none : NoRuleFault) (object :
       not_outside f.0 g.0 g.1
       (subst (λ (t : RuleText). IsOutsideRule (clock_of times.zone) times.local t) text
       (subst (λ (x : ℤ). IsOutsideRule (clock_of times.zone) x out.text) z.2 (subst (λ (x : Option Zone). IsOutsideRule (clock_of x) out.local out.text) z.1 out.outside)))
-  no_rule_fault n (two_rules h) = let l = at_most_one (codes "RRULE") lines r.spells.line r.spells.once in absurd (omega (arith, l, h))
 
 pub no_rule_fault_by : OneZonedTime → OneRule → NoRuleFault → {may : Bool} (object : Tree) (lines : Lines) (times : EventTimes) (rule : Option Rule) → SaysTimes may object lines times → SaysEventRule lines times rule
     → (n : ℕ) → EventRuleFault object lines n → ⊥
 no_rule_fault_by zoned rules none object lines times rule (inl s) r n f = no_rule_fault zoned rules none object lines times rule s r n f
 no_rule_fault_by zoned rules none object lines times rule (inr (_, s)) r n (bad_rule l) = no_text_fault rules none lines times rule r n l
 no_rule_fault_by zoned rules none object lines times rule (inr (_, s)) r n (starts_outside l) = none_there _ lines s.missing l
-no_rule_fault_by zoned rules none object lines times rule (inr (_, s)) r n (two_rules h) = let l = at_most_one (codes "RRULE") lines r.spells.line r.spells.once in absurd (omega (arith, l, h))

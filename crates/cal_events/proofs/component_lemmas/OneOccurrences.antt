@@ -6,7 +6,7 @@ use Rattle.std.proofs.lemmas.Bool.{true≢false}
 use Rattle.profile.specs.text.Lines.{line_value, is_same_name}
 use Rattle.profile.specs.text.Trees.{Tree}
 use Rattle.profile.specs.events.ZonedTimes.{ZonedTimeFault, SaysOutOfDates}
-use Rattle.profile.specs.events.Occurrences.{Time, WrittenTimes, SaysStatus, has_range, IsRecurrenceLine, ListedTime, entries_named, IsListed, IsInside, IsOutside, Lists, SaysOccurrences, EntryFault, EntriesFault, in_entry, too_many, OccurrenceFault, bad_recurrence, bad_additions, bad_exceptions, recurrence_out, additions_out, unfixed, two_recurrences, ranged, recurs}
+use Rattle.profile.specs.events.Occurrences.{Time, WrittenTimes, SaysStatus, has_range, IsRecurrenceLine, ListedTime, entries_named, IsListed, IsInside, IsOutside, Lists, SaysOccurrences, EntryFault, EntriesFault, in_entry, too_many, OccurrenceFault, bad_recurrence, bad_additions, bad_exceptions, recurrence_out, additions_out, unfixed, ranged, recurs}
 use Rattle.profile.specs.events.EventComponents.{instants_of, AreOfWritten}
 use Rattle.ical_tree.proofs.OneLine.{IsFunctional}
 use Rattle.cal_events.proofs.component_lemmas.Said.{same_said, said_by}
@@ -88,8 +88,6 @@ module _ (one : OneZonedTime) (none : NoTimeFault) {added fixed : Bool} (object 
       let other = l.2 in
       let e = one object l.0 (line_value l.0) other.0 f.0.form other.2.0 d.0 other.2.1 d.1 other.2.2 d.2 in
       other.1 (e.0 ∙ s.fixed_recurrence needed f.0 f.2)
-  no_occurrence_fault n (two_recurrences h) =
-      let l = at_most_one (codes "RECURRENCE-ID") lines s.is.line s.is.once in absurd (omega (arith, l, h))
   no_occurrence_fault n (ranged l) =
       let f = said_by (IsRecurrenceLine object) (λ line. has_range line ≡ true) (codes "RECURRENCE-ID") false lines written.recurrence s.is l in
       true≢false (sym l.2 ∙ f.1.0)

@@ -164,7 +164,7 @@ module _ (object : Tree) (lines : Lines) (start : When) (instant : ℤ) (in_date
           }
 
   -- what is wrong with the length
-  pub extent_judged : {may : Bool} (extent : Extent) (n : ℕ) → AreSaid object lines start instant in_dates extent → ExtentFault (form_said start) extent n → EventTimesFault may object lines n
+  pub extent_judged : (extent : Extent) (n : ℕ) → AreSaid object lines start instant in_dates extent → ExtentFault (form_said start) extent n → EventTimesFault object lines n
   extent_judged extent n a (is_other end differ) =
       let (line, once, none, (zone, local, says, means, dates)) = a.extent_in in
       let last = some_line (codes "DTEND") (λ l. SaysForm object l (form_of end.form)) lines line once (zone, local, says) in
@@ -192,20 +192,20 @@ module _ (object : Tree) (lines : Lines) (start : When) (instant : ℤ) (in_date
 not_true : (b : Bool) → b ≡ false → IsTrue b → ⊥
 not_true b is h = true≢false (sym h ∙ is)
 
-end_out : {may : Bool} (object : Tree) (lines : Lines) (start : ℤ) (extent : Extent) → IsExtentIn object lines start extent → ends_in extent ≡ false → EventTimesFault may object lines 52
+end_out : (object : Tree) (lines : Lines) (start : ℤ) (extent : Extent) → IsExtentIn object lines start extent → ends_in extent ≡ false → EventTimesFault object lines 52
 end_out object lines start (To end) (line, once, none, (zone, local, says, means, dates)) outside =
     ends_out (some_line (codes "DTEND") (SaysOutOfDates true object) lines line once
     (form_of end.form, zone, local, start +ℤ end.seconds, says, means, λ h. not_true end.in_dates outside (dates.1 h)))
 end_out object lines start (For duration) r outside = absurd (true≢false outside)
 end_out object lines start Open r outside = absurd (true≢false outside)
 
-module _ {may : Bool} (object : Tree) (lines : Lines) (start : When) (instant : ℤ) (in_dates : Bool) (extent : Extent) (a : AreSaid object lines start instant in_dates extent) where
-  pub start_judged : in_dates ≡ false → EventTimesFault may object lines 52
+module _ (object : Tree) (lines : Lines) (start : When) (instant : ℤ) (in_dates : Bool) (extent : Extent) (a : AreSaid object lines start instant in_dates extent) where
+  pub start_judged : in_dates ≡ false → EventTimesFault object lines 52
   start_judged outside =
       starts_out (some_line (codes "DTSTART") (SaysOutOfDates false object) lines a.line a.once
       (form_said start, zone_said start, local_said start, instant, a.start_said.says, a.start_said.means, λ w. not_true in_dates outside (a.start_said.dates.1 w)))
 
-  pub end_judged : ends_in extent ≡ false → EventTimesFault may object lines 52
+  pub end_judged : ends_in extent ≡ false → EventTimesFault object lines 52
   end_judged outside = end_out object lines instant extent a.extent_in outside
 
 -- a start in the dates is an instant that a stamp can have
@@ -274,7 +274,7 @@ module _ (object : Tree) (lines : Lines) (times : EventTimes) where
         start = t;
       }
 
-pub alone_judged : {may : Bool} (object : Tree) (lines : Lines) (extent : Extent) (n : ℕ) → AreSaidAlone object lines extent → AloneFault extent n → EventTimesFault may object lines n
+pub alone_judged : (object : Tree) (lines : Lines) (extent : Extent) (n : ℕ) → AreSaidAlone object lines extent → AloneFault extent n → EventTimesFault object lines n
 alone_judged object lines (To end) n a h = absurd h
 alone_judged object lines Open n a h = absurd h
 alone_judged object lines (For duration) n a (is_part d whole part) = absurd (true≢false (sym (ap is_whole_day whole)))
@@ -282,7 +282,7 @@ alone_judged object lines (For duration) n a (is_long d h) =
     let (line, none, once, lasts) = a.extent_in in
     lasts_long (some_line (codes "DURATION") IsNegativeOrLong lines line once (inr (length_of duration, lasts, h)))
 
-pub alone_out : {may : Bool} (object : Tree) (lines : Lines) (extent : Extent) → AreSaidAlone object lines extent → ends_in extent ≡ false → EventTimesFault may object lines 52
+pub alone_out : (object : Tree) (lines : Lines) (extent : Extent) → AreSaidAlone object lines extent → ends_in extent ≡ false → EventTimesFault object lines 52
 alone_out object lines extent a outside = end_out object lines (pos 0) extent a.extent_in outside
 
 -- ---- an end of the start's form
@@ -304,16 +304,16 @@ ok_so (Err e) P Q so h = tt
 
 -- ---- DURATION alone
 
-pub duration_fault : {may : Bool} (object : Tree) (lines : Lines) (line text : List ℕ) (n : ℕ) → OccursAtMostOnce (codes "DURATION") lines (Some line) → text ≡ line_value line
+pub duration_fault : (object : Tree) (lines : Lines) (line text : List ℕ) (n : ℕ) → OccursAtMostOnce (codes "DURATION") lines (Some line) → text ≡ line_value line
     → (n ≡ 12) ⊎ (n ≡ 51) → (n ≡ 12 → IsNone text) → (n ≡ 12 → SpellsNegative text → ⊥) → (n ≡ 51 → SpellsNegative text ⊎ SpellsLong text)
-    → EventTimesFault may object lines n
-duration_fault {may} object lines line text n once e (inl k) none positive long =
+    → EventTimesFault object lines n
+duration_fault object lines line text n once e (inl k) none positive long =
     let none' = subst IsNone e (none k) in
     let no' = subst (λ (t : List ℕ). SpellsNegative t → ⊥) e (positive k) in
-    subst (EventTimesFault may object lines) (sym k) (bad_duration (some_line (codes "DURATION") IsNoDuration lines line once (none', no')))
-duration_fault {may} object lines line text n once e (inr k) none positive long =
+    subst (EventTimesFault object lines) (sym k) (bad_duration (some_line (codes "DURATION") IsNoDuration lines line once (none', no')))
+duration_fault object lines line text n once e (inr k) none positive long =
     let long' = subst (λ (t : List ℕ). SpellsNegative t ⊎ SpellsLong t) e (long k) in
-    subst (EventTimesFault may object lines) (sym k)
+    subst (EventTimesFault object lines) (sym k)
     (lasts_long (some_line (codes "DURATION") IsNegativeOrLong lines line once (elim long' [ inl h ↦ inl h | inr h ↦ long_length line h ])))
 
 -- ---- the days of a DURATION

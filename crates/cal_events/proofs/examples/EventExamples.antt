@@ -6,7 +6,7 @@ use Rattle.std.proofs.lemmas.Int.{ints}
 use Rattle.profile.specs.series.Days.{days_before_year, days_of_months}
 use Rattle.profile.specs.text.Values.{SpellsStamp, SpellsLocal, SpellsDuration, unescaped}
 use Rattle.profile.specs.text.Trees.{Tree}
-use Rattle.profile.specs.events.EventComponents.{EventComponent, Accepted, Declined, Request, SaysEventComponent, EventComponentFault, has_accepted, no_organiser}
+use Rattle.profile.specs.events.EventComponents.{EventComponent, Accepted, Declined, Request, SaysEventComponent, EventComponentFault, has_accepted, in_presence, missing, ORGANIZER}
 use Rattle.profile.specs.events.Properties.{Fixed, Floating, WholeDay, IsDateText, TimeFault}
 use Rattle.profile.specs.events.ZonedTimes.{SpellsMidnight, SaysZonedTime, SaysNoStart}
 use Rattle.cal_events.proofs.shared_lemmas.Meanings.{utc_means}
@@ -125,7 +125,7 @@ accepts = refl
 -- a message lacks an organiser there
 lacks : (object : Tree) → EventComponentFault object (Some Request) lines 63
 unfolding lines
-lacks object = no_organiser refl refl
+lacks object = in_presence (missing ORGANIZER refl refl)
 
 -- what is wrong with a start: VALUE decides first, then the text
 a_period : TimeFault (codes "DTSTART;VALUE=Period:20250310T090000Z/PT1H") 56

@@ -1,19 +1,23 @@
 -- Instants in order, and what a binary search finds among them.
--- Cited by Instants::first_from, Instants::has, Instants::has_twins.
-use Rattle.std.proofs.Common.{◌≡◌, ◌≢◌, ◌∙◌, ℕ, ◌+◌, ◌-◌, ◌<◌, ◌≤◌, true, false, List, length, get_or, refl, sym, ap, subst, arith, inl, inr, ℤ, ◌<ℤ◌, ◌≤ℤ◌}
-use Rattle.std.specs.Prelude.{AllPairs, Contains, Some, None, int_lt, IsTrue, ◌↔◌, Result, Ok, Err}
+-- Cited by Instants::first_from, Instants::has, Instants::of, has_equal_neighbours, has_twins.
+use Rattle.std.proofs.Common.{◌≡◌, ◌≢◌, ◌∙◌, ℕ, Bool, ◌+◌, ◌-◌, ◌<◌, ◌≤◌, true, false, List, length, get_or, refl, sym, ap, subst, arith, inl, inr, ℤ, ◌<ℤ◌, ◌≤ℤ◌}
+use Rattle.std.specs.Prelude.{AllPairs, Contains, Some, None, int_lt, IsTrue, ◌↔◌, Result, Ok, Err, MatchBool}
 use Rattle.std.specs.declared.cmp.Ordering.{Ordering}
 use Rattle.std.specs.declared.cmp.Ordering.TheVariants.{Less, Equal, Greater}
-use Rattle.std.specs.Ordering.{int_cmp, is_lt}
+use Rattle.std.specs.Ordering.{int_cmp, int_eq, is_lt}
 use Rattle.std.specs.Result.{is_ok}
-use Rattle.std.specs.List.{AllAdjacentBelow}
-use Rattle.std.specs.List.Sorted.{IsSorted, IsSearchInRange, IsBinarySearchResult, IsPartitionedBy, IsPartitionPoint}
+use Rattle.std.specs.List.{AllAdjacentBelow, dedup}
+use Rattle.std.specs.List.Sorted.{IsPermutation, IsStrictlySortedBy, IsSorted, IsSearchInRange, IsBinarySearchResult, IsPartitionedBy, IsPartitionPoint}
 use Rattle.std.specs.FinMap.{int_cmp-IsAntisymmetric}
 use Rattle.std.proofs.lemmas.Bool.{cases_eq, cases_lt, true≢false, false≢true}
-use Rattle.std.proofs.lemmas.Cmp.{int_ranked, int_cmp_total}
+use Rattle.std.proofs.lemmas.Bool.Decides.{Decides-int_eq}
+use Rattle.std.proofs.lemmas.Cmp.{int_ranked, int_cmp_total, int_eq_equiv}
+use Rattle.std.proofs.lemmas.List.Kept.{Contains-dedup, Contains-from_dedup, IsStrictlySortedBy-dedup}
 use Rattle.std.proofs.lemmas.Int.{ints}
 use Rattle.std.proofs.lemmas.List.{get_or_default}
-use Rattle.std.proofs.lemmas.List.Sorted.{searchable_from_sorted, sorted_far, ranks_by}
+use Rattle.std.proofs.lemmas.List.Sorted.{Contains-permutation, IsPermutation-sym, searchable_from_sorted, sorted_far, ranks_by}
+use Rattle.std.proofs.lemmas.Map.Keys.{Less-from_sorted}
+use Rattle.cal_events.proofs.shared_lemmas.Distinct.{pairs_permuted}
 use Rattle.cal_events.specs.Instants.{IsFirstFrom}
 
 not_less : (x : ℤ) → int_cmp x x ≡ Less → ⊥
@@ -83,3 +87,32 @@ one_more_apart xs next d c low w h apart k e v same =
           apart (get_or_default xs (next - 1) d e (omega (arith, low, w)) ∙ sym (ap (λ n. get_or xs n e) at) ∙ same ∙ ap (λ n. get_or xs n e) is ∙ get_or_default xs next e c w)
       | inr other ↦ h k e (omega (arith, v, other)) same
     ]
+
+-- what is so of neighbours after a sort is so of all
+pub twins_moved : (xs sorted : List ℤ) → IsPermutation xs sorted → (found : Bool) → MatchBool found (AllPairs ◌≢◌ sorted → ⊥) (AllPairs ◌≢◌ sorted) → MatchBool found (AllPairs ◌≢◌ xs → ⊥) (AllPairs ◌≢◌ xs)
+twins_moved xs sorted same true twins = λ differ. twins (pairs_permuted ◌≢◌ (λ a b other e. other (sym e)) xs sorted same differ)
+twins_moved xs sorted same false differ = pairs_permuted ◌≢◌ (λ a b other e. other (sym e)) sorted xs (IsPermutation-sym xs sorted same) differ
+
+-- ---- each once
+
+pub strictly_sorted : (sorted left : List ℤ) → IsSorted int_cmp sorted → left ≡ dedup int_eq sorted → IsStrictlySortedBy int_cmp left
+strictly_sorted sorted left up is = subst (IsStrictlySortedBy int_cmp) (sym is) (IsStrictlySortedBy-dedup int_cmp_total (λ x y. refl) sorted up)
+
+pub ascends : (xs : List ℤ) → IsStrictlySortedBy int_cmp xs → AllPairs ◌<ℤ◌ xs
+ascends xs up i j d l w = int_ranked _ _ Less (sym (Less-from_sorted int_cmp xs i j d up l w))
+
+pub still_sorted : (sorted left : List ℤ) → IsSorted int_cmp sorted → left ≡ dedup int_eq sorted → IsSorted int_cmp left
+still_sorted sorted left up is k d low w =
+    let l : get_or left k d <ℤ get_or left (k + 1) d = ascends left (strictly_sorted sorted left up is) k (k + 1) d (omega arith) w in
+    go (get_or left k d) (get_or left (k + 1) d) l (int_cmp (get_or left (k + 1) d) (get_or left k d)) refl
+  where
+    go : (x y : ℤ) → x <ℤ y → (r : Ordering) → r ≡ int_cmp y x → is_lt r ≡ false
+    go x y l Less e = let m : y <ℤ x = int_ranked y x Less e in absurd (omega (arith, ints, l, m))
+    go x y l Equal e = refl
+    go x y l Greater e = refl
+
+pub kept_once : (xs sorted left : List ℤ) → IsPermutation xs sorted → left ≡ dedup int_eq sorted → (t : ℤ) → Contains left t ↔ Contains xs t
+kept_once xs sorted left same is t = (
+  (λ c. Contains-permutation sorted xs t (IsPermutation-sym xs sorted same) (Contains-from_dedup int_eq sorted t (subst (λ (l : List ℤ). Contains l t) is c))),
+  λ c. subst (λ (l : List ℤ). Contains l t) (sym is) (Contains-dedup int_eq_equiv (λ x y e. (Decides-int_eq x y).0 e) sorted t (Contains-permutation xs sorted t same c)),
+)

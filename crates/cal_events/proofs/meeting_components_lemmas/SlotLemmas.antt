@@ -36,10 +36,6 @@ match_same : {A B : Type 0} (b : Bool) → (A → B) → (B → A) → MatchBool
 match_same true f g h = λ x. h (g x)
 match_same false f g h = f h
 
--- in another order, too
-pub twins_in_order : (b : Bool) (ts sorted : List ℤ) → IsPermutation ts sorted → MatchBool b (AllPairs ◌≢◌ sorted → ⊥) (AllPairs ◌≢◌ sorted) → MatchBool b (AllPairs ◌≢◌ ts → ⊥) (AllPairs ◌≢◌ ts)
-twins_in_order b ts sorted same h = match_same b (pairs_permutation sorted ts (IsPermutation-sym ts sorted same)) (pairs_permutation ts sorted same) h
-
 -- ---- one component more
 
 module _ (all : List EventComponent) (i : ℕ) (x : EventComponent) (within : i < length all) (here : x ≡ get_or all i x) where

@@ -253,7 +253,7 @@ module _ (tree : OneTree) (one : OneEvent) (words : OneRoomZone) (room octets : 
         lines = said.lines;
         event = m.master;
         says = said.says;
-        master = by_its_rule m.master m.of.replaced;
+        master = by_its_rule m.master m.of.exceptions;
         is = m.of.is;
         times = refl;
         rule = refl;

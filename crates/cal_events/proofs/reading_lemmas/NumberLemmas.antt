@@ -8,13 +8,13 @@ use Rattle.ical_lines.specs.declared.fault.Fault.TheVariants.{Refused, Memory}
 use Rattle.profile.specs.faults.Faults.{is_event_fault, is_zoned_event_fault, is_zone_fault, is_rule_fault, is_series_event_fault, is_meeting_event_fault}
 use Rattle.profile.specs.text.Lines.{line_param, line_value}
 use Rattle.profile.specs.text.Trees.{Tree}
-use Rattle.profile.specs.series.ZoneTexts.{PartsFault, no_part, in_part, ruled, other_parts, unruled, unmatched, close, TimesFault, dates, missing, twice as part_twice, fixed, bad_start as bad_part, bad_from, bad_to}
+use Rattle.profile.specs.series.ZoneTexts.{PartsFault, no_part, in_part, ruled, other_parts, unruled, unmatched, close, TimesFault, dates, missing as part_missing, twice as part_twice, fixed, bad_start as bad_part, bad_from, bad_to}
 use Rattle.profile.specs.events.Properties.{TimeKind, Unsaid, DateTime, Date, Period, Other, time_kind, NoTimeFault, KindFault, ends_in_z}
-use Rattle.profile.specs.events.ZonedTimes.{zone_named, LocalFault, NamedFault, FaultIn, ZonedTimeFault, EventTimesFault, bad_start, bad_end, bad_duration, ends_early, ends_late, lasts_long, starts_out, ends_out, other_form, part_of_day, no_start, twice as times_twice, end_and_duration}
+use Rattle.profile.specs.events.ZonedTimes.{zone_named, LocalFault, NamedFault, FaultIn, ZonedTimeFault, EventTimesFault, bad_start, bad_end, bad_duration, ends_early, ends_late, lasts_long, starts_out, ends_out, other_form, part_of_day, end_and_duration}
 use Rattle.profile.specs.series.RuleTexts.{RuleFault, unknown, bad_value, no_frequency, two_frequencies, twice as rule_twice, apart, two_ends}
-use Rattle.profile.specs.events.EventRules.{EventRuleFault, bad_rule, starts_outside, two_rules}
-use Rattle.profile.specs.events.Occurrences.{ListedTime, EntryFault, entries_named, EntriesFault, in_entry, too_many, OccurrenceFault, bad_recurrence, bad_additions, bad_exceptions, recurrence_out, additions_out, unfixed, two_recurrences, ranged, recurs}
-use Rattle.profile.specs.events.EventComponents.{EventComponentFault, in_times, in_rule, in_occurrences, bad_stamp, bad_uid, bad_organiser, bad_attendee, bad_sequence, no_uid, no_stamp_given, twice, no_organiser, Method}
+use Rattle.profile.specs.events.EventRules.{EventRuleFault, bad_rule, starts_outside}
+use Rattle.profile.specs.events.Occurrences.{ListedTime, EntryFault, entries_named, EntriesFault, in_entry, too_many, OccurrenceFault, bad_recurrence, bad_additions, bad_exceptions, recurrence_out, additions_out, unfixed, ranged, recurs}
+use Rattle.profile.specs.events.EventComponents.{EventComponentFault, in_times, in_rule, in_occurrences, bad_stamp, bad_uid, bad_organiser, bad_attendee, bad_sequence, in_presence, PresenceFault, twice, missing, missing_number, Property, UID, ORGANIZER, DTSTAMP, SEQUENCE, STATUS, RECURRENCE-ID, DTSTART, DTEND, DURATION, RRULE, RDATE, EXDATE, ATTENDEE, SUMMARY, Method}
 
 abbrev Lines : Type 0
 Lines = List (List ℕ)
@@ -47,7 +47,7 @@ wider n h = ap (λ b. b || is_zone_fault n) h
 
 part_number : (lines : Lines) (n : ℕ) → TimesFault lines n → is_zoned_event_fault n ≡ true
 part_number lines n (dates h) = refl
-part_number lines n (missing name c h) = refl
+part_number lines n (part_missing name c h) = refl
 part_number lines n (part_twice name c h) = refl
 part_number lines n (fixed h) = refl
 part_number lines n (bad_part h) = refl
@@ -77,7 +77,7 @@ line_number object line n f = text_number object (line_param (codes "TZID") line
 
 -- ---- the times, and the event
 
-pub times_number : {may : Bool} (object : Tree) (lines : Lines) (n : ℕ) → EventTimesFault may object lines n → is_zoned_event_fault n ≡ true
+pub times_number : (object : Tree) (lines : Lines) (n : ℕ) → EventTimesFault object lines n → is_zoned_event_fault n ≡ true
 times_number object lines n (bad_start l) = line_number object l.0 n l.2
 times_number object lines n (bad_end l) = line_number object l.0 n l.2
 times_number object lines n (bad_duration l) = refl
@@ -88,13 +88,11 @@ times_number object lines n (starts_out l) = refl
 times_number object lines n (ends_out l) = refl
 times_number object lines n (other_form x) = refl
 times_number object lines n (part_of_day x) = refl
-times_number object lines n (no_start _ h) = refl
-times_number object lines n (times_twice name c h) = refl
 times_number object lines n (end_and_duration e d) = refl
 
-pub times_refused : (may : Bool) (object : Tree) (lines : Lines) (f : Fault) → RefusesBy (EventTimesFault may object lines) f → RefusesOnly is_zoned_event_fault f
-times_refused may object lines Memory h = tt
-times_refused may object lines (Refused r) h = times_number object lines r.number h
+pub times_refused : (object : Tree) (lines : Lines) (f : Fault) → RefusesBy (EventTimesFault object lines) f → RefusesOnly is_zoned_event_fault f
+times_refused object lines Memory h = tt
+times_refused object lines (Refused r) h = times_number object lines r.number h
 
 -- ---- a series
 
@@ -113,7 +111,6 @@ rule_text_number text n (two_ends rule s h) = refl
 rule_number : (object : Tree) (lines : Lines) (n : ℕ) → EventRuleFault object lines n → is_series_event_fault n ≡ true
 rule_number object lines n (bad_rule l) = rule_text_number (line_value l.0) n l.2.fault
 rule_number object lines n (starts_outside l) = refl
-rule_number object lines n (two_rules x) = refl
 
 -- ---- an event with its instances
 
@@ -135,11 +132,31 @@ occurrence_number object lines n (bad_exceptions f) = entries_number object (cod
 occurrence_number object lines n (recurrence_out l) = refl
 occurrence_number object lines n (additions_out e c out) = refl
 occurrence_number object lines n (unfixed u l) = refl
-occurrence_number object lines n (two_recurrences t) = refl
 occurrence_number object lines n (ranged l) = refl
 occurrence_number object lines n (recurs t) = refl
 
+missing_is : (property : Property) → is_meeting_event_fault (missing_number property) ≡ true
+missing_is UID = refl
+missing_is ORGANIZER = refl
+missing_is DTSTAMP = refl
+missing_is SEQUENCE = refl
+missing_is STATUS = refl
+missing_is RECURRENCE-ID = refl
+missing_is DTSTART = refl
+missing_is DTEND = refl
+missing_is DURATION = refl
+missing_is RRULE = refl
+missing_is RDATE = refl
+missing_is EXDATE = refl
+missing_is ATTENDEE = refl
+missing_is SUMMARY = refl
+
+presence_number : (m : Option Method) (lines : Lines) (n : ℕ) → PresenceFault m lines n → is_meeting_event_fault n ≡ true
+presence_number m lines n (twice property once h) = refl
+presence_number m lines n (missing property asked h) = missing_is property
+
 component_number : (object : Tree) (m : Option Method) (lines : Lines) (n : ℕ) → EventComponentFault object m lines n → is_meeting_event_fault n ≡ true
+component_number object m lines n (in_presence f) = presence_number m lines n f
 component_number object m lines n (in_times f) = meeting_wider n (series_wider n (times_number object lines n f))
 component_number object m lines n (in_rule f) = meeting_wider n (rule_number object lines n f)
 component_number object m lines n (in_occurrences f) = occurrence_number object lines n f
@@ -148,10 +165,6 @@ component_number object m lines n (bad_uid l) = refl
 component_number object m lines n (bad_organiser l) = refl
 component_number object m lines n (bad_attendee l) = refl
 component_number object m lines n (bad_sequence l) = refl
-component_number object m lines n (no_uid x) = refl
-component_number object m lines n (no_stamp_given t x) = refl
-component_number object m lines n (twice name c x) = refl
-component_number object m lines n (no_organiser t x) = refl
 
 -- ---- what a VEVENT is refused for
 

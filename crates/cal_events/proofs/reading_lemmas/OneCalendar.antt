@@ -11,7 +11,7 @@ use Rattle.profile.specs.events.Properties.{BothOrNeither}
 use Rattle.profile.specs.events.Placed.{SaysPlaced}
 use Rattle.profile.specs.checker.Instances.{Instance}
 use Rattle.profile.specs.events.EventComponents.{EventComponent, SaysEventComponent, EventComponentFault, Method}
-use Rattle.profile.specs.events.Confirmed.{Confirmed, IsSingle, AreSingles, IsSeries, is_series, MastersDiffer, OverridesDiffer}
+use Rattle.profile.specs.events.Confirmed.{Confirmed, IsSingle, AreSingles, IsSeries, is_series, MastersDiffer, OverridesDiffer, IsExcepted}
 use Rattle.profile.specs.checker.Calendars.{SayEvents, SaysCalendar, CalendarFault, in_zone, in_event, two_masters, two_overrides}
 use Rattle.std.proofs.lemmas.Int.{ints}
 use Rattle.std.proofs.lemmas.List.Elements.{All-contains}
@@ -21,7 +21,7 @@ use Rattle.cal_events.proofs.component_lemmas.Said.{same_said, said_by}
 use Rattle.cal_events.proofs.shared_lemmas.OneTimes.{at_most_one}
 use Rattle.cal_events.proofs.shared_lemmas.Placing.{one_said_placed}
 use Rattle.cal_events.proofs.shared_lemmas.InOneOrder.{one_order}
-use Rattle.cal_events.proofs.shared_lemmas.SeriesLemmas.{one_series}
+use Rattle.cal_events.proofs.shared_lemmas.SeriesLemmas.{one_ruled}
 use Rattle.cal_events.proofs.shared_lemmas.Zips.{zip_one, zip_at}
 
 abbrev pub OneEvent : Type 0
@@ -87,7 +87,7 @@ one_calendar one words room object a b s t =
     let lists : s.are.lists ≡ t.are.lists =
     zip_one (AreSingles room t.events) (one_list room t.events) t.events s.are.lists t.are.lists (subst (λ (es : List EventComponent). AllZip (AreSingles room es) es s.are.lists) same s.are.each) t.are.each in
     let series : a.series ≡ b.series =
-    zip_one (IsSeries t.events) (one_series t.events) (filter (is_series room) t.events) a.series b.series
+    zip_one (IsSeries t.events) (λ m. one_ruled m (IsExcepted t.events m)) (filter (is_series room) t.events) a.series b.series
     (subst (λ (es : List EventComponent). AllZip (IsSeries es) (filter (is_series room) es) a.series) same s.are.series) t.are.series in
     confirmed_same a b series (s.are.singles ∙ ap (flat_map (λ own. own)) lists ∙ sym t.are.singles)
 

@@ -1,5 +1,5 @@
 -- The least instant past some things, one after another.
--- Cited by the functions of regular, Series::of_ruled and Series::regular_from of series.
+-- Cited by the functions of regular, Series::by_rule and Series::regular_from of series.
 use Rattle.std.proofs.Common.{◌≡◌, ◌∙◌, ℕ, ◌<◌, ◌≤◌, ◌+◌, true, false, List, [], ◌∷◌, ◌++◌, length, take, get_or, refl, sym, ap, subst, inl, inr, ◌⊎◌, arith, ℤ, pos, ◌+ℤ◌, ◌≤ℤ◌, ◌<ℤ◌, to_z, of_z, w64}
 use Rattle.std.specs.Prelude.{Option, Some, None, is_some, IfSome}
 use Rattle.std.specs.Int.{int_max}
@@ -18,6 +18,9 @@ use Rattle.profile.specs.events.Events.{Event}
 use Rattle.profile.specs.events.Spans.{has_end, IsHalfDayPast, IsPastOnsets, IsLeastPast}
 use Rattle.profile.specs.events.Starts.{IsRuleStart}
 use Rattle.cal_zones.specs.Repeats.{IsRegularFrom}
+use Rattle.cal_events.specs.Recurrence.{master_of, recurring}
+use Rattle.cal_events.specs.declared.recurrence.EventName.{EventName}
+use Rattle.cal_events.specs.declared.recurrence.Recurrence.{Recurrence}
 use Rattle.cal_events.specs.LastStarts.{IsLastStart}
 use Rattle.cal_events.specs.Past.{IsFirstPast, IsPastException, ArePast, IsPastRule, IsPastMaster, IsLeastPastMaster, IsKeptPast}
 use Rattle.cal_events.proofs.shared_lemmas.InOneOrder.{none_in}
@@ -178,3 +181,15 @@ read_past series own from x y is h are = (
   },
   h.least,
 )
+
+-- ---- whosever the meeting is
+
+module _ (name : EventName) (r : Recurrence) (t : ℤ) where
+  to_named : IsPastMaster (recurring r) t → IsPastMaster (master_of name r) t
+  to_named p = record { start = p.start; onsets = p.onsets; exceptions = p.exceptions; last = p.last }
+
+  of_named : IsPastMaster (master_of name r) t → IsPastMaster (recurring r) t
+  of_named p = record { start = p.start; onsets = p.onsets; exceptions = p.exceptions; last = p.last }
+
+pub past_of : (name : EventName) (r : Recurrence) (from : ℤ) → IsLeastPastMaster (recurring r) from → IsLeastPastMaster (master_of name r) from
+past_of name r from h = record { past = to_named name r from h.past; least = λ other p. h.least other (of_named name r other p) }

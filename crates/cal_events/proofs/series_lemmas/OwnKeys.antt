@@ -143,55 +143,17 @@ module _ (keys : List InstanceKey) (up : AreInOrder keys) (m : MeetingName) wher
 
   -- ---- their slots
 
-  module _ (differ : AllPairs ◌≢◌ (map key_of keys)) where
-    strict : AllPairs (λ a b. key_cmp (key_of a) (key_of b) ≡ Less) keys
-    strict i j d l w = go (key_cmp (key_of (get_or keys i d)) (key_of (get_or keys j d))) refl
-      where
-        not_back : is_lt (key_cmp (key_of (get_or keys j d)) (key_of (get_or keys i d))) ≡ false
-        not_back = sorted_far (λ x y. is_lt (key_cmp (key_of x) (key_of y))) (ranks_by key_total key_of) keys up i j d (omega (arith, l)) w
-
-        two : key_of (get_or keys i d) ≢ key_of (get_or keys j d)
-        two = mapped_pairs ◌≢◌ key_of keys differ i j d l w
-
-        go : (r : Ordering) → key_cmp (key_of (get_or keys i d)) (key_of (get_or keys j d)) ≡ r → r ≡ Less
-        go Less e = refl
-        go Equal e = absurd (two (tie _ _ (ap is_lt e) not_back))
-        go Greater e = absurd (two (absurd (true≢false (sym (ap is_lt (key_total.antisymm (key_of (get_or keys j d)) (key_of (get_or keys i d)) ∙ ap ordering_reverse e)) ∙ not_back))))
-
-    -- of one meeting the slots ascend
-    slots_less : (a b : InstanceKey) → is_key_of m a ≡ true → is_key_of m b ≡ true → key_cmp (key_of a) (key_of b) ≡ Less → a.slot <ℤ b.slot
-    slots_less a b p q e =
-        let own = meeting_exact (a.organiser.now, a.uid.now) m (equal_is _ p) in
-        let other = meeting_exact (b.organiser.now, b.uid.now) m (equal_is _ q) in
-        let same : ◌≡◌ {A = MeetingName} (a.organiser.now, a.uid.now) (b.organiser.now, b.uid.now) = own ∙ sym other in
-        int_ranked a.slot b.slot Less (sym (by_slot a b same ∙ e))
-
-    pub own_slots : (own : List InstanceKey) → own ≡ filter (is_key_of m) keys → AreSlotsOf (map key_of keys) m (map (λ k. k.slot) own)
-    own_slots own is = record {
-      ascending = pairs_mapped ◌<ℤ◌ (λ (k : InstanceKey). k.slot) own ascends;
-      are = λ t. (
-        (λ c.
-            let r = of_mapped (λ (k : InstanceKey). k.slot) own t c in
-            let f = of_filtered (is_key_of m) keys r.0 (subst (λ l. Contains l r.0) is r.1) in
-            let at = meeting_exact (r.0.organiser.now, r.0.uid.now) m (equal_is _ f.1) in
-            subst (Contains (map key_of keys)) (ap (λ n. key_in n r.0.slot) at ∙ ap (key_in m) r.2) (in_mapped key_of keys r.0 f.0)),
-        λ c.
-            let r = of_mapped key_of keys (key_in m t) c in
-            let at : ◌≡◌ {A = MeetingName} (r.0.organiser.now, r.0.uid.now) m = ap (λ (k : Key). (k.organiser, k.uid)) r.2 in
-            let own_one : is_key_of m r.0 ≡ true = ap is_eq (ap (λ n. meeting_name_cmp n m) at ∙ meeting_itself m) in
-            subst (Contains (map (λ k. k.slot) own)) (ap (λ (k : Key). k.slot) r.2)
-            (in_mapped (λ (k : InstanceKey). k.slot) own r.0 (subst (λ l. Contains l r.0) (sym is) (in_filtered (is_key_of m) keys r.0 r.1 own_one))),
-      );
-    }
-      where
-        ascends : AllPairs (λ (a b : InstanceKey). a.slot <ℤ b.slot) own
-        ascends = subst (AllPairs (λ (a b : InstanceKey). a.slot <ℤ b.slot)) (sym is) pairs
-          where
-            kept : AllPairs (λ a b. key_cmp (key_of a) (key_of b) ≡ Less) (filter (is_key_of m) keys)
-            kept = AllPairs-filter (λ a b. key_cmp (key_of a) (key_of b) ≡ Less) (is_key_of m) keys strict
-
-            of_it : (k : ℕ) (d : InstanceKey) → k < length (filter (is_key_of m) keys) → is_key_of m (get_or (filter (is_key_of m) keys) k d) ≡ true
-            of_it = filter_passes (is_key_of m) keys
-
-            pairs : AllPairs (λ (a b : InstanceKey). a.slot <ℤ b.slot) (filter (is_key_of m) keys)
-            pairs i j d l w = slots_less (get_or (filter (is_key_of m) keys) i d) (get_or (filter (is_key_of m) keys) j d) (of_it i d (omega (arith, l, w))) (of_it j d w) (kept i j d l w)
+  pub own_slots : (own : List InstanceKey) → own ≡ filter (is_key_of m) keys → AreSlotsOf (map key_of keys) m (map (λ k. k.slot) own)
+  own_slots own is t = (
+    (λ c.
+        let r = of_mapped (λ (k : InstanceKey). k.slot) own t c in
+        let f = of_filtered (is_key_of m) keys r.0 (subst (λ l. Contains l r.0) is r.1) in
+        let at = meeting_exact (r.0.organiser.now, r.0.uid.now) m (equal_is _ f.1) in
+        subst (Contains (map key_of keys)) (ap (λ n. key_in n r.0.slot) at ∙ ap (key_in m) r.2) (in_mapped key_of keys r.0 f.0)),
+    λ c.
+        let r = of_mapped key_of keys (key_in m t) c in
+        let at : ◌≡◌ {A = MeetingName} (r.0.organiser.now, r.0.uid.now) m = ap (λ (k : Key). (k.organiser, k.uid)) r.2 in
+        let own_one : is_key_of m r.0 ≡ true = ap is_eq (ap (λ n. meeting_name_cmp n m) at ∙ meeting_itself m) in
+        subst (Contains (map (λ k. k.slot) own)) (ap (λ (k : Key). k.slot) r.2)
+        (in_mapped (λ (k : InstanceKey). k.slot) own r.0 (subst (λ l. Contains l r.0) (sym is) (in_filtered (is_key_of m) keys r.0 r.1 own_one))),
+  )

@@ -1,5 +1,5 @@
 -- Of a series some VEVENT says the times and the rule, since one said those of its master.
--- Cited by Series::of_ruled of series.
+-- Cited by Series::by_rule of series.
 use Rattle.std.proofs.Common.{◌≡◌, ◌∙◌, sym, ap, true}
 use Rattle.std.proofs.Math.Logic.{∥∥₁_map}
 use Rattle.std.specs.Prelude.{is_some, []}

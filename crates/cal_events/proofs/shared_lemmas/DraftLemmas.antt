@@ -36,7 +36,7 @@ use Rattle.cal_events.proofs.shared_lemmas.InOneOrder.{later, in_mapped, of_mapp
 use Rattle.cal_events.proofs.shared_lemmas.EventLemmas.{push_zip}
 use Rattle.cal_events.proofs.reading_lemmas.ConfirmedLemmas.{lists_apart}
 use Rattle.cal_events.proofs.draft_lemmas.KeyLemmas.{key_exact, key_itself}
-use Rattle.cal_events.specs.Ruled.{IsByItsRule}
+use Rattle.cal_events.specs.Ruled.{IsRuledBeside}
 use Rattle.cal_events.specs.Series.{series_said}
 use Rattle.cal_events.specs.declared.series.Series.{Series}
 use Rattle.cal_events.proofs.shared_lemmas.SeriesLemmas.{replaced_at, at_replaced, series_made, zip_mapped}
@@ -286,7 +286,7 @@ module _ (room : List ℕ) (events : List EventComponent) (draft : Draft) (d : I
     confirmed_of series ruled = record {
       series =
           subst (λ es. AllZip (IsSeries events) es (map series_said series)) d.series
-          (zip_mapped (IsSeries events) (λ m s. IsByItsRule ruled.keys (component_of m) (series_said s)) component_of series_said
+          (zip_mapped (IsSeries events) (λ m s. IsRuledBeside ruled.keys (component_of m) (series_said s)) component_of series_said
           (λ m s h. series_made events draft.entries d.entries ruled.keys ruled.same (component_of m) (series_said s) h) draft.series.items series ruled.each);
       lists = lists.0;
       each = lists.1;

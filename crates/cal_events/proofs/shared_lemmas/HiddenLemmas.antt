@@ -1,25 +1,24 @@
--- The instants that an event keeps in order, and its starts.
--- Cited by added_of of event, starts_of of event, first_added of instances, is_wanted of instances, MeetingComponents::into_event of meeting_components.
+-- The instants that a recurrence keeps in order, and its starts.
+-- Cited by Event::of of event, first_added of instances, is_wanted of instances, Recurrence::of of recurrence, starts_of of recurrence.
 use Rattle.std.proofs.Common.{◌≡◌, ◌∙◌, ℕ, zero, suc, ◌+◌, ◌<◌, ◌≤◌, true, List, [], ◌∷◌, ◌++◌, length, map, get_or, take, take_all, refl, sym, ap, subst, arith, inl, inr, ◌⊎◌, ℤ, ◌<ℤ◌, ◌≤ℤ◌}
-use Rattle.std.specs.Prelude.{Contains, Option, Some, None, ◌↔◌, IfOk, Result, Ok, Err}
+use Rattle.std.specs.Prelude.{Contains, Option, Some, None, ◌↔◌}
 use Rattle.std.specs.declared.cmp.Ordering.{Ordering}
 use Rattle.std.specs.declared.cmp.Ordering.TheVariants.{Less, Equal, Greater}
 use Rattle.std.specs.Ordering.{int_cmp, int_eq, is_eq}
-use Rattle.std.specs.List.Sorted.{IsPermutation}
 use Rattle.std.proofs.lemmas.Bool.{false≢true}
 use Rattle.std.proofs.lemmas.Option.{same_Some}
 use Rattle.std.proofs.lemmas.Cmp.{int_ranked, int_cmp_total, tied_itself}
 use Rattle.std.proofs.lemmas.List.{take_more}
-use Rattle.std.proofs.lemmas.List.Elements.{Contains-append_left, Contains-append_right, Contains-append_cases, Contains-push, Contains-push_cases}
+use Rattle.std.proofs.lemmas.List.Elements.{Contains-append_left, Contains-push, Contains-push_cases}
 use Rattle.std.proofs.lemmas.List.Folds.{Any-from_list_any, list_any-from_Any}
-use Rattle.std.proofs.lemmas.List.Sorted.{Contains-permutation, IsPermutation-sym}
 use Rattle.profile.specs.checker.Instances.{horizon}
 use Rattle.profile.specs.events.EventComponents.{EventComponent as SaidComponent}
 use Rattle.profile.specs.events.Starts.{IsReplaced}
 use Rattle.cal_events.specs.MeetingComponents.{IsInEventDates, instants_said}
-use Rattle.cal_events.specs.declared.component.EventComponent.{EventComponent}
 use Rattle.cal_events.specs.declared.instances.Bound.{Bound}
-use Rattle.cal_events.specs.Instants.{IsFirstFrom, HasInstant, Hides, AddsStarts, AreStartsOf}
+use Rattle.cal_events.specs.Instants.{IsFirstFrom, HasInstant, IsAdmitted, AreStarts, AreStartsOf, AreReplacedIn}
+use Rattle.cal_events.specs.Recurrence.{recurring}
+use Rattle.cal_events.specs.declared.recurrence.Recurrence.{Recurrence}
 use Rattle.cal_events.specs.Instances.{IsAfter, IsWanted, IsLeast}
 
 -- ---- one of them is this one
@@ -61,45 +60,38 @@ at_said [] t (k, w, e) = absurd (omega (arith, w))
 at_said (o ∷ os) t (zero, w, e) = record { override = o; among = (0, omega arith, refl); is = e }
 at_said (o ∷ os) t (suc k, w, e) = let r = at_said os t (k, omega (arith, w), e) in record { override = r.override; among = (suc r.among.0, omega (arith, r.among.1), r.among.2); is = r.is }
 
-pub hides_made : (master : SaidComponent) (overrides : List SaidComponent) (instants hidden : List ℤ) → map Some instants ≡ instants_said overrides → IsPermutation (instants ++ master.exceptions) hidden → Hides master overrides hidden
-hides_made master overrides instants hidden said same t = (
-  (λ none. (
-    (λ c. none (Contains-permutation (instants ++ master.exceptions) hidden t same (Contains-append_right instants master.exceptions t c))),
-    λ o. none (Contains-permutation (instants ++ master.exceptions) hidden t same (Contains-append_left instants master.exceptions t (of_some instants t (subst (λ (l : List (Option ℤ)). Contains l (Some t)) (sym said) (said_at overrides o.override t o.among o.is))))),
-  )),
-  λ h c. elim (Contains-append_cases instants master.exceptions t (Contains-permutation hidden (instants ++ master.exceptions) t (IsPermutation-sym (instants ++ master.exceptions) hidden same) c)) [
-    | inl i ↦ h.1 (at_said overrides t (subst (λ (l : List (Option ℤ)). Contains l (Some t)) said (in_some instants t i)))
-    | inr e ↦ h.0 e
-  ],
-)
+-- the instants that overrides are for are those that they replace
+module _ (overrides : List SaidComponent) (instants : List ℤ) (said : map Some instants ≡ instants_said overrides) where
+  pub replaced_at : (t : ℤ) → Contains instants t → IsReplaced (Contains overrides) t
+  replaced_at t c = at_said overrides t (subst (λ (l : List (Option ℤ)). Contains l (Some t)) said (in_some instants t c))
+
+  pub replaced_in : (exceptions : List ℤ) → ((t : ℤ) → Contains instants t → Contains exceptions t) → AreReplacedIn overrides exceptions
+  replaced_in exceptions all t x =
+      has_from exceptions t (all t (of_some instants t (subst (λ (l : List (Option ℤ)). Contains l (Some t)) (sym said) (said_at overrides x.override t x.among x.is))))
+
+none_replaced : (t : ℤ) → IsReplaced (Contains []) t → ⊥
+none_replaced t x = omega (arith, x.among.1)
 
 -- an instant that isn't before the bound is wanted where it is a start
-pub wanted_by : (master : SaidComponent) (overrides : List SaidComponent) (hidden : List ℤ) (bound : Bound) (t : ℤ) → Hides master overrides hidden → IsAfter bound t t → (IsInEventDates t × (Contains hidden t → ⊥)) ↔ IsWanted master overrides bound t
-wanted_by master overrides hidden bound t hides after = (
-  (λ h. let x = (hides t).0 h.1 in record { after = after; in_dates = h.0; not_excepted = x.0; not_replaced = x.1 }),
-  λ w. (w.in_dates, (hides t).1 (w.not_excepted, w.not_replaced)),
+pub wanted_by : (r : Recurrence) (bound : Bound) (t : ℤ) → IsAfter bound t t → IsAdmitted r.exceptions t ↔ IsWanted (recurring r) [] bound t
+wanted_by r bound t after = (
+  (λ h. record { after = after; in_dates = h.0; not_excepted = h.1; not_replaced = none_replaced t }),
+  λ w. (w.in_dates, w.not_excepted),
 )
 
 -- ---- those that are starts
 
-pub adds_made : (master : SaidComponent) (overrides : List SaidComponent) (hidden added : List ℤ) → Hides master overrides hidden → AreStartsOf master.additions hidden added → AddsStarts master overrides added
-adds_made master overrides hidden added hides are t = (
-  (λ h.
-      let x = (are t).0 (has_at added t h) in
-      let y = (hides t).0 x.1.1 in
-      (has_from master.additions t x.0, x.1.0, y.0, y.1)),
-  λ h. has_from added t ((are t).1 (has_at master.additions t h.0, (h.1, (hides t).1 (h.2, h.3)))),
-)
+pub all_admitted : (instants exceptions starts : List ℤ) → AreStartsOf instants exceptions starts → AreStarts starts exceptions
+all_admitted instants exceptions starts are t h = ((are t).0 (has_at starts t h)).1
 
--- the first of them is the first that is wanted
-pub first_wanted : (master : SaidComponent) (overrides : List SaidComponent) (added : List ℤ) (bound : Bound) (from : ℤ) (found : Option ℤ) → AddsStarts master overrides added
-    → ((t : ℤ) → t <ℤ horizon → IsAfter bound t t ↔ (from ≤ℤ t)) → IsFirstFrom added from found → IsLeast (λ t. Contains master.additions t × IsWanted master overrides bound t) found
-first_wanted master overrides added bound from None adds after h = λ t c.
-    h t (has_at added t ((adds t).1 (has_from master.additions t c.0, c.1.in_dates, c.1.not_excepted, c.1.not_replaced))) ((after t c.1.in_dates.1).0 c.1.after)
-first_wanted master overrides added bound from (Some x) adds after h =
-    let a = (adds x).0 (has_from added x h.0) in (
-      (has_at master.additions x a.0, record { after = (after x a.1.1).1 h.1; in_dates = a.1; not_excepted = a.2; not_replaced = a.3 }),
-      λ u c. h.2 u (has_at added u ((adds u).1 (has_from master.additions u c.0, c.1.in_dates, c.1.not_excepted, c.1.not_replaced))) ((after u c.1.in_dates.1).0 c.1.after),
+-- the first that isn't before the bound is the first that is wanted
+pub first_wanted : (r : Recurrence) (bound : Bound) (from : ℤ) (found : Option ℤ) → AreStarts r.additions r.exceptions
+    → ((t : ℤ) → t <ℤ horizon → IsAfter bound t t ↔ (from ≤ℤ t)) → IsFirstFrom r.additions from found → IsLeast (λ t. Contains r.additions t × IsWanted (recurring r) [] bound t) found
+first_wanted r bound from None starts after h = λ t c. h t c.0 ((after t c.1.in_dates.1).0 c.1.after)
+first_wanted r bound from (Some x) starts after h =
+    let a = starts x (has_from r.additions x h.0) in (
+      (h.0, record { after = (after x a.0.1).1 h.1; in_dates = a.0; not_excepted = a.1; not_replaced = none_replaced x }),
+      λ u c. h.2 u c.0 ((after u c.1.in_dates.1).0 c.1.after),
     )
 
 -- one more that is one, and one more that isn't
@@ -137,15 +129,9 @@ module _ (P : ℤ → Type 0) (xs starts : List ℤ) (k : ℕ) (x : ℤ) (w : k 
     λ h. elim (less t h.0) [ inl old ↦ (are t).1 (old, h.1) | inr same ↦ absurd (not (subst P (sym same) h.1)) ],
   )
 
-pub kept_whole : (P : ℤ → Type 0) (xs starts sorted : List ℤ) (k : ℕ) → length xs ≤ k → AreKept P (take k xs) starts → IsPermutation starts sorted → AreKept P xs sorted
+pub kept_whole : (P : ℤ → Type 0) (xs starts sorted : List ℤ) (k : ℕ) → length xs ≤ k → AreKept P (take k xs) starts → ((t : ℤ) → Contains sorted t ↔ Contains starts t) → AreKept P xs sorted
 kept_whole P xs starts sorted k le are same t =
     let all = subst (λ (l : List ℤ). AreKept P l starts) (take_all k xs le) are in (
-      (λ c. (all t).0 (Contains-permutation sorted starts t (IsPermutation-sym starts sorted same) c)),
-      λ h. Contains-permutation starts sorted t same ((all t).1 h),
+      (λ c. (all t).0 ((same t).0 c)),
+      λ h. (same t).1 ((all t).1 h),
     )
-
--- what holds of RDATE's starts of this master holds of those of the master
-pub starts_of_master : {E : Type 0} (o : Option EventComponent) (master : EventComponent) (hidden : List ℤ) (r : Result (List ℤ) E) → o ≡ Some master
-    → IfOk r (AreStartsOf master.additions.items hidden) → IfOk r (λ added. (c : EventComponent) → o ≡ Some c → AreStartsOf c.additions.items hidden added)
-starts_of_master o master hidden (Ok added) is h = λ c e. subst (λ (x : EventComponent). AreStartsOf x.additions.items hidden added) (same_Some master c (sym is ∙ e)) h
-starts_of_master o master hidden (Err e) is h = tt

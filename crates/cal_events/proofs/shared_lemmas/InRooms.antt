@@ -17,10 +17,10 @@ use Rattle.profile.specs.events.Properties.{Form, Fixed, Floating, WholeDay, is_
 use Rattle.profile.specs.events.Occurrences.{Time, WrittenTimes, recurs_as_instance}
 use Rattle.profile.specs.events.ZonedTimes.{clock_of, EventTimes}
 use Rattle.profile.specs.events.EventRules.{GivesBeside, GivesRule, IsRuleText}
-use Rattle.profile.specs.events.EventComponents.{Method, Store, Request, Add, Cancel, Reply, Refresh, Attendee, EventComponent, SaysEventComponent, AreOfWritten, instants_of, adds_instances}
+use Rattle.profile.specs.events.EventComponents.{Method, Store, Request, Add, Cancel, Reply, Refresh, Attendee, EventComponent, SaysEventComponent, AreOfWritten, instants_of, bars_recurrence}
 use Rattle.profile.specs.events.Events.{Event, as_added, start_written, taken_by}
 use Rattle.profile.specs.events.Starts.{IsStart, IsInstance}
-use Rattle.profile.specs.events.Confirmed.{alone, has_series, AreApart, IsOfSeries}
+use Rattle.profile.specs.events.Confirmed.{alone, has_series, AreApart, IsOfSeries, IsByItsRule}
 use Rattle.profile.specs.events.Placed.{IsInstantIn, IsAt, zone_in, IsPlaced, is_all_fixed}
 use Rattle.cal_events.specs.InRoom.{AreInstancesIn, AreInstancesOf, unwritten}
 use Rattle.cal_events.specs.MeetingComponents.{AreOfObject, IsInEventDates}
@@ -59,6 +59,10 @@ instance_so event w s a b h = go (of_both event)
 series_so : (event : EventComponent) (w : WrittenTimes) (s : List ℕ) (a : List Attendee) (b : Instance) → IsOfSeries event b → IsOfSeries (with_texts event w s a) b
 series_so event w s a b h = record { master = h.master; rule = h.rule; has = h.has; starts = h.starts }
 
+ruled_so : (event : EventComponent) (w : WrittenTimes) (s : List ℕ) (a : List Attendee) (series : Event) → IsByItsRule event (Contains event.exceptions) series
+    → IsByItsRule (with_texts event w s a) (Contains event.exceptions) series
+ruled_so event w s a series h = record { exceptions = h.exceptions; are = h.are; is = h.is }
+
 module _ (event : EventComponent) (w : WrittenTimes) (s : List ℕ) (a : List Attendee) where
   abbrev other : EventComponent
   other = with_texts event w s a
@@ -83,7 +87,7 @@ module _ (event : EventComponent) (w : WrittenTimes) (s : List ℕ) (a : List At
       λ is. let x = (h.instances b).0 is in (instance_so event w s a b x.0, series_so event w s a b x.1),
       λ of. (h.instances b).1 (instance_back b of.0, series_back b of.1),
     );
-    master = h.master;
+    ruled = ruled_so event w s a series h.ruled;
   }
 
   given_so : (given : Option Series) → MatchOption given (has_series event ≡ false) (λ series. IsSeriesOf event (series_said series))
@@ -240,7 +244,7 @@ rule_none (s ∷ ss) times text rule e h = go rule (subst (λ (t : Option RuleTe
     go None h = refl
     go (Some r) h = absurd h
 
-module _ (object : Tree) (m : Option Method) (lines : Lines) (event : EventComponent) (says : SaysEventComponent object m lines event) (adds : adds_instances m ≡ true) where
+module _ (object : Tree) (m : Option Method) (lines : Lines) (event : EventComponent) (says : SaysEventComponent object m lines event) (adds : bars_recurrence m ≡ true) where
   pub added_has_no_rule : event.rule ≡ None
   added_has_no_rule =
       let none : lines_named (codes "RRULE") lines ≡ [] =
@@ -287,7 +291,7 @@ pub record IsTakenFrom (object : Tree) (m : Option Method) (vs : List Lines) (ev
   pub among : Contains vs lines
   pub said : EventComponent
   pub says : SaysEventComponent object m lines said
-  pub is : (event ≡ said) ⊎ ((adds_instances m ≡ true) × (event ≡ as_added said))
+  pub is : (event ≡ said) ⊎ ((bars_recurrence m ≡ true) × (event ≡ as_added said))
 
 as_said : (object : Tree) (m : Option Method) (vs : List Lines) (es : List EventComponent) → AllZip (SaysEventComponent object m) vs es → (event : EventComponent) → Contains es event
     → (lines : Lines) × Contains vs lines × SaysEventComponent object m lines event
@@ -299,7 +303,7 @@ as_said object m (v ∷ vs) (e ∷ es) z event (suc k, l, is) = let r = as_said 
 taken_said : (object : Tree) (m : Option Method) (vs : List Lines) (es : List EventComponent) → AllZip (SaysEventComponent object m) vs es → (event : EventComponent) → Contains es event → IsTakenFrom object m vs event
 taken_said object m vs es z event c = let r = as_said object m vs es z event c in record { lines = r.0; among = r.1; said = event; says = r.2; is = inl refl }
 
-taken_added : (object : Tree) (m : Option Method) (vs : List Lines) (es : List EventComponent) → adds_instances m ≡ true → AllZip (SaysEventComponent object m) vs es → (event : EventComponent) → Contains (map as_added es) event
+taken_added : (object : Tree) (m : Option Method) (vs : List Lines) (es : List EventComponent) → bars_recurrence m ≡ true → AllZip (SaysEventComponent object m) vs es → (event : EventComponent) → Contains (map as_added es) event
     → IsTakenFrom object m vs event
 taken_added object m vs es adds z event c =
     let e = of_mapped as_added es event c in
@@ -338,7 +342,7 @@ module _ (object : Tree) (m : Option Method) (vs : List Lines) (event : EventCom
     pub taken_slot_in_dates : (slot : Option ℤ) (t : ℤ) → BothOrNeither (IsAt room) event.written.recurrence slot → slot ≡ Some t → IsInEventDates t
     taken_slot_in_dates slot t both is = go from.is
       where
-        go : (event ≡ from.said) ⊎ ((adds_instances m ≡ true) × (event ≡ as_added from.said)) → IsInEventDates t
+        go : (event ≡ from.said) ⊎ ((bars_recurrence m ≡ true) × (event ≡ as_added from.said)) → IsInEventDates t
         go (inl e) = slot_in_dates words room named object m from.lines from.said from.says slot t (subst (λ (x : EventComponent). BothOrNeither (IsAt room) x.written.recurrence slot) e both) is
         go (inr (adds, e)) =
             let there : BothOrNeither (IsAt room) (as_added from.said).written.recurrence (Some t) =
@@ -349,6 +353,6 @@ module _ (object : Tree) (m : Option Method) (vs : List Lines) (event : EventCom
     pub taken_start_in_dates : (t : ℤ) → IsAt room (start_written event) t → IsInEventDates t
     taken_start_in_dates t at = go from.is
       where
-        go : (event ≡ from.said) ⊎ ((adds_instances m ≡ true) × (event ≡ as_added from.said)) → IsInEventDates t
+        go : (event ≡ from.said) ⊎ ((bars_recurrence m ≡ true) × (event ≡ as_added from.said)) → IsInEventDates t
         go (inl e) = start_in_dates words room named object m from.lines from.said from.says t (subst (λ (x : EventComponent). IsAt room (start_written x) t) e at)
         go (inr (adds, e)) = start_in_dates words room named object m from.lines from.said from.says t (subst (λ (x : EventComponent). IsAt room (start_written x) t) e at)

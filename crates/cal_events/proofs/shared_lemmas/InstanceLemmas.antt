@@ -5,8 +5,7 @@ use Rattle.std.specs.Prelude.{Option, Some, None, Contains, int_lt, IsTrue, ◌�
 use Rattle.std.proofs.lemmas.Bool.{true≢false, false≢true, cases_order}
 use Rattle.std.proofs.lemmas.Option.{same_Some}
 use Rattle.std.proofs.lemmas.Int.{ints}
-use Rattle.std.proofs.lemmas.List.{take_more}
-use Rattle.std.proofs.lemmas.List.Elements.{Contains-append_left, Contains-push, Contains-push_cases}
+use Rattle.std.proofs.lemmas.List.Elements.{All-contains}
 use Rattle.std.proofs.lemmas.Bool.Decides.{nat_tests}
 use Rattle.profile.specs.series.Rules.{Rule, is_rule_day, is_counted, IsNextDay, NoDayFrom}
 use Rattle.profile.specs.series.Zones.{Zone, Means, IsOneMeaning, IsBounds, local_time}
@@ -14,51 +13,25 @@ use Rattle.profile.specs.checker.Instances.{Key, Instance, horizon}
 use Rattle.profile.specs.events.Properties.{first_second}
 use Rattle.profile.specs.events.ZonedTimes.{clock_of}
 use Rattle.profile.specs.events.EventRules.{IsOnDay}
-use Rattle.profile.specs.events.EventComponents.{EventComponent as SaidComponent}
+use Rattle.profile.specs.events.EventComponents.{EventComponent as SaidComponent, meeting_said}
 use Rattle.profile.specs.events.Starts.{IsGiven, IsRuleStart, IsReplaced, IsStart, IsInstance, ComesBefore, EndsAt, key_at}
 use Rattle.cal_events.specs.Clocks.{IsAscending}
-use Rattle.cal_events.specs.Component.{component_of}
+use Rattle.cal_events.specs.Component.{component_of, times_of}
+use Rattle.cal_events.specs.Calendar.{MeetingName, key_in}
+use Rattle.cal_events.specs.Recurrence.{name_of, recurring, master_of}
 use Rattle.cal_events.specs.Event.{said_meeting}
 use Rattle.cal_events.specs.declared.event.Event as declared
 use Rattle.cal_events.specs.declared.component.EventComponent.{EventComponent}
+use Rattle.cal_events.specs.declared.recurrence.EventName.{EventName}
+use Rattle.cal_events.specs.declared.recurrence.Recurrence.{Recurrence}
 use Rattle.cal_events.specs.declared.rule_days.RuleDays.{RuleDays}
 use Rattle.cal_events.specs.declared.instances.Bound.{Bound}
 use Rattle.cal_events.specs.declared.instances.InstancePlace.{InstancePlace}
 use Rattle.cal_events.specs.Instances.{IsAfter, IsBefore, IsWanted, NoneBefore, IsLeast, lesser, IsMovedTo, IsSoonest, IsSooner, IsPastSlot, HasPassed, IsHeldAt, IsHeld, IsAtPlace, own_place}
-
--- ---- overrides
-
-pub over_at : (os : List EventComponent) (t : ℤ) (k : ℕ) (d : EventComponent) → k < length os → (get_or os k d).recurrence ≡ Some t → IsReplaced (Contains (map component_of os)) t
-over_at [] t k d w e = absurd (omega (arith, w))
-over_at (o ∷ os) t zero d w e = record { override = component_of o; among = (0, omega arith, refl); is = e }
-over_at (o ∷ os) t (suc k) d w e = let r = over_at os t k d (omega (arith, w)) e in record { override = r.override; among = (suc r.among.0, omega (arith, r.among.1), r.among.2); is = r.is }
-
-pub none_over : (os : List EventComponent) (t : ℤ) → ((k : ℕ) (d : EventComponent) → k < length os → (get_or os k d).recurrence ≡ Some t → ⊥) → IsReplaced (Contains (map component_of os)) t → ⊥
-none_over os t h r = go os h r.override r.among r.is
-  where
-    go : (os : List EventComponent) → ((k : ℕ) (d : EventComponent) → k < length os → (get_or os k d).recurrence ≡ Some t → ⊥) → (y : SaidComponent) → Contains (map component_of os) y → y.recurrence ≡ Some t → ⊥
-    go [] h y (k, w, e) is = absurd (omega (arith, w))
-    go (o ∷ os) h y (zero, w, e) is = h 0 o (omega arith) (ap (λ (x : SaidComponent). x.recurrence) e ∙ is)
-    go (o ∷ os) h y (suc k, w, e) is = go os (λ j d l. h (suc j) d (omega (arith, l))) y (k, omega (arith, w), e) is
-
--- an instant that passes all tests but the last is wanted where that says no
-pub wanted_unless : (master : SaidComponent) (overrides : List SaidComponent) (bound : Bound) (t : ℤ) (xs : List ℤ) (o : Bool) → IsAfter bound t t → (first_second ≤ℤ t) × (t <ℤ horizon) → xs ≡ master.exceptions
-    → (Contains xs t → ⊥) → (IsTrue o ↔ IsReplaced (Contains overrides) t) → IsTrue (not o) ↔ IsWanted master overrides bound t
-wanted_unless master overrides bound t xs true after dates e none h = ((λ x. absurd (false≢true x)), λ w. absurd (w.not_replaced (h.0 refl)))
-wanted_unless master overrides bound t xs false after dates e none h = (
-  (λ x. record {
-    after = after;
-    in_dates = dates;
-    not_excepted = subst (λ (l : List ℤ). Contains l t → ⊥) e none;
-    not_replaced = λ y. false≢true (h.1 y);
-  }),
-  λ w. refl,
-)
+use Rattle.cal_events.proofs.shared_lemmas.HiddenLemmas.{has_at}
+use Rattle.cal_events.proofs.shared_lemmas.InOneOrder.{none_in}
 
 -- ---- the lesser of two
-
-pub least_none : (P : ℤ → Type 0) (o : Option ℤ) → o ≡ None → IsLeast P o → (t : ℤ) → P t → ⊥
-least_none P o e h = subst (IsLeast P) e h
 
 pub least_of_two : (P Q : ℤ → Type 0) (a b : Option ℤ) → IsLeast P a → IsLeast Q b → IsLeast (λ t. P t ⊎ Q t) (lesser a b)
 least_of_two P Q None None p q = λ t h. elim h [ inl x ↦ p t x | inr x ↦ q t x ]
@@ -74,29 +47,6 @@ least_of_two P Q (Some x) (Some y) p q = go (int_lt y x) refl
 pub least_same : (P Q : ℤ → Type 0) (o : Option ℤ) → ((t : ℤ) → P t → Q t) → ((t : ℤ) → Q t → P t) → IsLeast P o → IsLeast Q o
 least_same P Q None f g h = λ t q. h t (g t q)
 least_same P Q (Some x) f g h = (f x h.0, λ u q. h.1 u (g u q))
-
--- one more of a list
-pub least_more : (P : ℤ → Type 0) (xs : List ℤ) (k : ℕ) (x : ℤ) (a b : Option ℤ) → k < length xs → get_or xs k x ≡ x → IsLeast (λ t. Contains (take k xs) t × P t) a → IsLeast (λ t. (t ≡ x) × P t) b
-    → IsLeast (λ t. Contains (take (k + 1) xs) t × P t) (lesser a b)
-least_more P xs k x a b w e p q =
-    least_same (λ t. (Contains (take k xs) t × P t) ⊎ ((t ≡ x) × P t)) (λ t. Contains (take (k + 1) xs) t × P t) (lesser a b)
-    (λ t h. elim h [ inl l ↦ (more t (inl l.0), l.1) | inr r ↦ (more t (inr r.0), r.1) ])
-    (λ t h. elim (less t h.0) [ inl l ↦ inl (l, h.1) | inr r ↦ inr (r, h.1) ])
-    (least_of_two (λ t. Contains (take k xs) t × P t) (λ t. (t ≡ x) × P t) a b p q)
-  where
-    grown : take (k + 1) xs ≡ take k xs ++ x ∷ []
-    grown = take_more xs k x w ∙ ap (λ y. take k xs ++ y ∷ []) e
-
-    more : (t : ℤ) → Contains (take k xs) t ⊎ (t ≡ x) → Contains (take (k + 1) xs) t
-    more t (inl c) = subst (λ (l : List ℤ). Contains l t) (sym grown) (Contains-append_left (take k xs) (x ∷ []) t c)
-    more t (inr same) = subst (λ (l : List ℤ). Contains l t) (sym grown) (subst (λ (y : ℤ). Contains (take k xs ++ x ∷ []) y) (sym same) (Contains-push (take k xs) x))
-
-    less : (t : ℤ) → Contains (take (k + 1) xs) t → Contains (take k xs) t ⊎ (t ≡ x)
-    less t c = elim (Contains-push_cases (take k xs) x t (subst (λ (l : List ℤ). Contains l t) grown c)) [ inl l ↦ inl l | inr same ↦ inr (sym same) ]
-
--- all of it
-pub least_whole : (P : ℤ → Type 0) (xs : List ℤ) (k : ℕ) (a : Option ℤ) → length xs ≤ k → IsLeast (λ t. Contains (take k xs) t × P t) a → IsLeast (λ t. Contains xs t × P t) a
-least_whole P xs k a w h = subst (λ (l : List ℤ). IsLeast (λ t. Contains l t × P t) a) (take_all k xs w) h
 
 -- ---- the days of a rule
 
@@ -243,10 +193,10 @@ module _ (os : List EventComponent) (bound : Bound) where
   abbrev moved : InstancePlace → Type 0
   moved p = (o : EventComponent) × Contains os o × IsMovedTo o bound p
 
-  abbrev own : EventComponent → InstancePlace → Type 0
-  own c p = (p ≡ own_place p.start) × IsStart (component_of c) (map component_of os) p.start × IsAfter bound p.start p.start
+  abbrev own : Recurrence → InstancePlace → Type 0
+  own c p = (p ≡ own_place p.start) × IsStart (recurring c) [] p.start × IsAfter bound p.start p.start
 
-  own_soonest : (c : EventComponent) (start : Option ℤ) → IsLeast (λ t. IsStart (component_of c) (map component_of os) t × IsAfter bound t t) start → IsSoonest (own c) (option_map own_place start)
+  own_soonest : (c : Recurrence) (start : Option ℤ) → IsLeast (λ t. IsStart (recurring c) [] t × IsAfter bound t t) start → IsSoonest (own c) (option_map own_place start)
   own_soonest c None h = λ p k. h p.start (k.1, k.2)
   own_soonest c (Some t) h = (
     (refl, h.0.0, h.0.1),
@@ -256,30 +206,30 @@ module _ (os : List EventComponent) (bound : Bound) where
         elim b [ inl l ↦ absurd (omega (arith, ints, l, least)) | inr l ↦ absurd (omega (arith, ints, l.0, l.1, slot)) ],
   )
 
-  held_of : (master : Option EventComponent) (c : EventComponent) → master ≡ Some c → (p : InstancePlace) → own c p ⊎ moved p → IsHeld master os bound p
+  held_of : (master : Option Recurrence) (c : Recurrence) → master ≡ Some c → (p : InstancePlace) → own c p ⊎ moved p → IsHeld master os bound p
   held_of master c is p (inl (e, s, a)) = (inl (c, is, e, s), subst (λ (x : ℤ). IsAfter bound p.start x) (sym (ap (λ (q : InstancePlace). q.slot) e)) a)
   held_of master c is p (inr (o, k, (at, a))) = (inr (o, k, at), a)
 
-  of_held : (master : Option EventComponent) (c : EventComponent) → master ≡ Some c → (p : InstancePlace) → IsHeld master os bound p → own c p ⊎ moved p
+  of_held : (master : Option Recurrence) (c : Recurrence) → master ≡ Some c → (p : InstancePlace) → IsHeld master os bound p → own c p ⊎ moved p
   of_held master c is p (inl (d, other, e, s), a) =
       let same : d ≡ c = same_Some d c (sym other ∙ is) in
-      inl (e, subst (λ (x : EventComponent). IsStart (component_of x) (map component_of os) p.start) same s, subst (λ (x : ℤ). IsAfter bound p.start x) (ap (λ (q : InstancePlace). q.slot) e) a)
+      inl (e, subst (λ (x : Recurrence). IsStart (recurring x) [] p.start) same s, subst (λ (x : ℤ). IsAfter bound p.start x) (ap (λ (q : InstancePlace). q.slot) e) a)
   of_held master c is p (inr (o, k, at), a) = inr (o, k, (at, a))
 
-  pub first_with_master : (master : Option EventComponent) (c : EventComponent) → master ≡ Some c → (start : Option ℤ) (n m r : Option InstancePlace)
-      → IsLeast (λ t. IsStart (component_of c) (map component_of os) t × IsAfter bound t t) start → n ≡ option_map own_place start → IsSoonest (λ p. (o : EventComponent) × Contains os o × IsMovedTo o bound p) m
+  pub first_with_master : (master : Option Recurrence) (c : Recurrence) → master ≡ Some c → (start : Option ℤ) (n m r : Option InstancePlace)
+      → IsLeast (λ t. IsStart (recurring c) [] t × IsAfter bound t t) start → n ≡ option_map own_place start → IsSoonest (λ p. (o : EventComponent) × Contains os o × IsMovedTo o bound p) m
       → IsSooner n m r → IsSoonest (IsHeld master os bound) r
   first_with_master master c is start n m r h e g s =
       soonest_same (λ p. own c p ⊎ moved p) (IsHeld master os bound) r (held_of master c is) (of_held master c is)
       (soonest_of_two (own c) moved n m r (subst (IsSoonest (own c)) (sym e) (own_soonest c start h)) g s)
 
-  pub first_without : (master : Option EventComponent) → master ≡ None → (m : Option InstancePlace) → IsSoonest (λ p. (o : EventComponent) × Contains os o × IsMovedTo o bound p) m
+  pub first_without : (master : Option Recurrence) → master ≡ None → (m : Option InstancePlace) → IsSoonest (λ p. (o : EventComponent) × Contains os o × IsMovedTo o bound p) m
       → IsSoonest (IsHeld master os bound) m
   first_without master none m h =
       soonest_same moved (IsHeld master os bound) m (λ p k. (inr (k.0, k.1, k.2.0), k.2.1))
       (λ p k. elim k.0 [ inl l ↦ absurd (nothing l.0 (sym none ∙ l.1)) | inr l ↦ (l.0, l.1, (l.2, k.1)) ]) h
     where
-      nothing : (c : EventComponent) → None ≡ Some c → ⊥
+      nothing : (c : Recurrence) → None ≡ Some c → ⊥
       nothing c e = cc
 
 -- what is to come after a place that was to come was to come
@@ -299,20 +249,20 @@ none_more master overrides bound p day a h rule e first second n on lt holds t m
     h rule e first second n on lt holds t means
     (record { after = admitted bound p t t a w.after; in_dates = w.in_dates; not_excepted = w.not_excepted; not_replaced = w.not_replaced })
 
-pub passed_more : (master : Option EventComponent) (os : List EventComponent) (bound : Bound) (p : InstancePlace) (days : RuleDays) → IsAfter bound p.start p.slot → HasPassed master os bound days
-    → HasPassed master os (record { start = p.start; slot = Some p.slot }) days
-passed_more master os bound p days a h c is =
+pub passed_more : (master : Option Recurrence) (bound : Bound) (p : InstancePlace) (days : RuleDays) → IsAfter bound p.start p.slot → HasPassed master bound days
+    → HasPassed master (record { start = p.start; slot = Some p.slot }) days
+passed_more master bound p days a h c is =
     let w = h c is in
-    record { listed = w.listed; none = none_more (component_of c) (map component_of os) bound p days.from a w.none; kept = w.kept }
+    record { listed = w.listed; none = none_more (recurring c) [] bound p days.from a w.none; kept = w.kept }
 
 -- ---- instances and their places
 
-pub of_option : (o : Option EventComponent) (m : SaidComponent) → option_map component_of o ≡ Some m → (c : EventComponent) × (o ≡ Some c) × (component_of c ≡ m)
-of_option None m e = absurd (nothing e)
+pub of_option : {X : Type 0} (f : X → SaidComponent) (o : Option X) (m : SaidComponent) → option_map f o ≡ Some m → (c : X) × (o ≡ Some c) × (f c ≡ m)
+of_option f None m e = absurd (nothing e)
   where
     nothing : None ≡ Some m → ⊥
     nothing e = cc
-of_option (Some c) m e = (c, refl, same_Some (component_of c) m e)
+of_option f (Some c) m e = (c, refl, same_Some (f c) m e)
 
 pub of_list : (os : List EventComponent) (m : SaidComponent) → Contains (map component_of os) m → (c : EventComponent) × Contains os c × (component_of c ≡ m)
 of_list [] m (k, w, e) = absurd (omega (arith, w))
@@ -327,22 +277,38 @@ in_list (o ∷ os) c (suc k, w, e) = let r = in_list os c (k, omega (arith, w), 
 abbrev place_of : Instance → InstancePlace
 place_of b = record { start = b.start; slot = b.key.slot }
 
-pub instance_held : (event : declared.Event) (b : Instance) → IsInstance (said_meeting event) b → IsHeldAt event.master event.overrides.items (place_of b)
+-- a start of a master that overrides don't touch is one of the recurrence
+plain_start : (name : EventName) (r : Recurrence) (overrides : List SaidComponent) (t : ℤ) → IsStart (master_of name r) overrides t → IsStart (recurring r) [] t
+plain_start name r overrides t s = record { given = s.given; in_dates = s.in_dates; not_excepted = s.not_excepted; not_replaced = λ x. none_in x.override x.among }
+
+-- what overrides replace is excepted, so a start of the recurrence is one of the master
+pub own_start : (event : declared.Event) (r : Recurrence) → event.recurrence ≡ Some r → (t : ℤ) → IsStart (recurring r) [] t → IsStart (master_of event.name r) (map component_of event.overrides.items) t
+own_start event r is t s = record {
+  given = s.given;
+  in_dates = s.in_dates;
+  not_excepted = s.not_excepted;
+  not_replaced = λ x. s.not_excepted (has_at r.exceptions t (event.replaced r is t x));
+}
+
+pub instance_held : (event : declared.Event) (b : Instance) → IsInstance (said_meeting event) b → IsHeldAt event.recurrence event.overrides.items (place_of b)
 instance_held event b (inl i) =
-    let m = of_option event.master i.master i.is in
+    let m = of_option (master_of event.name) event.recurrence i.master i.is in
     let slot : b.key.slot ≡ b.start = ap (λ (k : Key). k.slot) i.key in
-    inl (m.0, m.1, (λ j. record { start = b.start; slot = slot j }), subst (λ (e : SaidComponent). IsStart e (map component_of event.overrides.items) b.start) (sym m.2) i.starts)
+    inl (m.0, m.1, (λ j. record { start = b.start; slot = slot j }), plain_start event.name m.0 (map component_of event.overrides.items) b.start (subst (λ (e : SaidComponent). IsStart e (map component_of event.overrides.items) b.start) (sym m.2) i.starts))
 instance_held event b (inr i) =
     let m = of_list event.overrides.items i.override i.is in
     inr (m.0, m.1, (ap (λ (e : SaidComponent). e.recurrence) m.2 ∙ i.recurrence, ap (λ (e : SaidComponent). e.times.start) m.2 ∙ sym i.starts))
 
-pub master_instance : (event : declared.Event) (c : EventComponent) → event.master ≡ Some c → (b : Instance) → IsStart (component_of c) (map component_of event.overrides.items) b.start → b.key ≡ key_at (component_of c) b.start
-    → EndsAt (component_of c).times b.start b.end → IsInstance (said_meeting event) b
-master_instance event c is b s k e = inl (record { master = component_of c; is = ap (option_map component_of) is; starts = s; key = k; ends = e })
+pub master_instance : (event : declared.Event) (c : Recurrence) → event.recurrence ≡ Some c → (b : Instance) → IsStart (recurring c) [] b.start → b.key ≡ key_in (name_of event.name) b.start
+    → EndsAt (times_of c.times) b.start b.end → IsInstance (said_meeting event) b
+master_instance event c is b s k e =
+    inl (record { master = master_of event.name c; is = ap (option_map (master_of event.name)) is; starts = own_start event c is b.start s; key = k; ends = e })
 
 pub override_instance : (event : declared.Event) (c : EventComponent) → Contains event.overrides.items c → (b : Instance) → c.recurrence ≡ Some b.key.slot → b.start ≡ c.times.instant
-    → b.key ≡ key_at (component_of c) b.key.slot → EndsAt (component_of c).times b.start b.end → IsInstance (said_meeting event) b
-override_instance event c is b r s k e = inr (record { override = component_of c; is = in_list event.overrides.items c is; recurrence = r; key = k; starts = s; ends = e })
+    → b.key ≡ key_in (name_of event.name) b.key.slot → EndsAt (component_of c).times b.start b.end → IsInstance (said_meeting event) b
+override_instance event c is b r s k e =
+    let named = All-contains (λ (o : EventComponent). meeting_said (component_of o) ≡ name_of event.name) event.overrides.items c event.named is in
+    inr (record { override = component_of c; is = in_list event.overrides.items c is; recurrence = r; key = k ∙ ap (λ (m : MeetingName). key_in m b.key.slot) (sym named); starts = s; ends = e })
 
 -- ---- where to begin
 
@@ -369,12 +335,6 @@ none_before_start master overrides bound rule day is e other o first s n on lt h
     let after = starts_at rule n (subst (λ (r : Rule). is_rule_day r n ≡ true) same holds) in
     absurd (omega (arith, after, lt, e))
 
-pub none_without_rule : (master : SaidComponent) (overrides : List SaidComponent) (bound : Bound) (day : ℕ) → master.rule ≡ None → NoneBefore master overrides bound day
-none_without_rule master overrides bound day none rule is first s n on lt holds t means w = nothing rule (sym none ∙ is)
-  where
-    nothing : (r : Rule) → None ≡ Some r → ⊥
-    nothing r e = cc
-
 pub from_on : (from start slot : ℤ) → IsAfter (record { start = from; slot = None }) start slot ↔ from ≤ℤ start
 from_on from start slot = (
   (λ h. elim h [ inl x ↦ omega (arith, ints, x) | inr x ↦ omega (arith, ints, x.0) ]),
@@ -386,46 +346,46 @@ from_on from start slot = (
 
 -- ---- the instance at a place
 
-pub master_there : (master : Option EventComponent) (os : List EventComponent) (place : InstancePlace) → IsHeldAt master os place → ((o : EventComponent) → Contains os o → IsAtPlace o place → ⊥)
-    → (c : EventComponent) → master ≡ Some c → (place.slot ≡ place.start) × IsStart (component_of c) (map component_of os) place.start
+pub master_there : (master : Option Recurrence) (os : List EventComponent) (place : InstancePlace) → IsHeldAt master os place → ((o : EventComponent) → Contains os o → IsAtPlace o place → ⊥)
+    → (c : Recurrence) → master ≡ Some c → (place.slot ≡ place.start) × IsStart (recurring c) [] place.start
 master_there master os place (inl (d, is, e, s)) none c other =
-    (ap (λ (p : InstancePlace). p.slot) e, subst (λ (x : EventComponent). IsStart (component_of x) (map component_of os) place.start) (same_Some d c (sym is ∙ other)) s)
+    (ap (λ (p : InstancePlace). p.slot) e, subst (λ (x : Recurrence). IsStart (recurring x) [] place.start) (same_Some d c (sym is ∙ other)) s)
 master_there master os place (inr (o, k, at)) none c other = absurd (none o k at)
 
-pub nothing_there : (master : Option EventComponent) (os : List EventComponent) (place : InstancePlace) → IsHeldAt master os place → ((o : EventComponent) → Contains os o → IsAtPlace o place → ⊥) → master ≡ None → ⊥
+pub nothing_there : (master : Option Recurrence) (os : List EventComponent) (place : InstancePlace) → IsHeldAt master os place → ((o : EventComponent) → Contains os o → IsAtPlace o place → ⊥) → master ≡ None → ⊥
 nothing_there master os place (inl (d, is, e, s)) none other = nothing d (sym other ∙ is)
   where
-    nothing : (c : EventComponent) → None ≡ Some c → ⊥
+    nothing : (c : Recurrence) → None ≡ Some c → ⊥
     nothing c e = cc
 nothing_there master os place (inr (o, k, at)) none other = none o k at
 
 -- what was made for the master's start, or for an override, is an instance
-pub made_of_master : (event : declared.Event) (c : EventComponent) → event.master ≡ Some c → (b : Instance) (start slot : ℤ) → slot ≡ start → IsStart (component_of c) (map component_of event.overrides.items) start
-    → b.start ≡ start → b.key ≡ key_at (component_of c) slot → EndsAt (component_of c).times start b.end → IsInstance (said_meeting event) b
+pub made_of_master : (event : declared.Event) (c : Recurrence) → event.recurrence ≡ Some c → (b : Instance) (start slot : ℤ) → slot ≡ start → IsStart (recurring c) [] start
+    → b.start ≡ start → b.key ≡ key_in (name_of event.name) slot → EndsAt (times_of c.times) start b.end → IsInstance (said_meeting event) b
 made_of_master event c is b start slot own s e k ends =
-    master_instance event c is b (subst (IsStart (component_of c) (map component_of event.overrides.items)) (sym e) s) (k ∙ ap (key_at (component_of c)) (own ∙ sym e))
-    (subst (λ (t : ℤ). EndsAt (component_of c).times t b.end) (sym e) ends)
+    master_instance event c is b (subst (IsStart (recurring c) []) (sym e) s) (k ∙ ap (key_in (name_of event.name)) (own ∙ sym e))
+    (subst (λ (t : ℤ). EndsAt (times_of c.times) t b.end) (sym e) ends)
 
 pub made_of_override : (event : declared.Event) (c : EventComponent) → Contains event.overrides.items c → (b : Instance) (start slot : ℤ) → c.recurrence ≡ Some slot → start ≡ c.times.instant
-    → b.start ≡ start → b.key ≡ key_at (component_of c) slot → EndsAt (component_of c).times start b.end → IsInstance (said_meeting event) b
+    → b.start ≡ start → b.key ≡ key_in (name_of event.name) slot → EndsAt (component_of c).times start b.end → IsInstance (said_meeting event) b
 made_of_override event c is b start slot r t e k ends =
     let same : b.key.slot ≡ slot = ap (λ (x : Key). x.slot) k in
-    override_instance event c is b (r ∙ ap Some (sym same)) (e ∙ t) (k ∙ ap (key_at (component_of c)) (sym same)) (subst (λ (x : ℤ). EndsAt (component_of c).times x b.end) (sym e) ends)
+    override_instance event c is b (r ∙ ap Some (sym same)) (e ∙ t) (k ∙ ap (key_in (name_of event.name)) (sym same)) (subst (λ (x : ℤ). EndsAt (component_of c).times x b.end) (sym e) ends)
 
 -- ---- one step
 
 abbrev pub bound_at : ℤ → ℤ → Bound
 bound_at start slot = record { start = start; slot = Some slot }
 
-module _ (event : declared.Event) (bound : Bound) (r : Option InstancePlace) (h : IsSoonest (IsHeld event.master event.overrides.items bound) r) where
+module _ (event : declared.Event) (bound : Bound) (r : Option InstancePlace) (h : IsSoonest (IsHeld event.recurrence event.overrides.items bound) r) where
   pub none_left : r ≡ None → (b : Instance) → IsInstance (said_meeting event) b × IsAfter bound b.start b.key.slot → ⊥
-  none_left e b l = (subst (IsSoonest (IsHeld event.master event.overrides.items bound)) e h) (place_of b) (instance_held event b l.0, l.1)
+  none_left e b l = (subst (IsSoonest (IsHeld event.recurrence event.overrides.items bound)) e h) (place_of b) (instance_held event b l.0, l.1)
 
   module _ (p : InstancePlace) (e : r ≡ Some p) where
-    soonest : IsHeld event.master event.overrides.items bound p × ((q : InstancePlace) → IsHeld event.master event.overrides.items bound q → IsBefore q p → ⊥)
-    soonest = subst (IsSoonest (IsHeld event.master event.overrides.items bound)) e h
+    soonest : IsHeld event.recurrence event.overrides.items bound p × ((q : InstancePlace) → IsHeld event.recurrence event.overrides.items bound q → IsBefore q p → ⊥)
+    soonest = subst (IsSoonest (IsHeld event.recurrence event.overrides.items bound)) e h
 
-    pub held_there : IsHeld event.master event.overrides.items bound p
+    pub held_there : IsHeld event.recurrence event.overrides.items bound p
     held_there = soonest.0
 
     pub none_before : (i : Instance) → i.start ≡ p.start → i.key.slot ≡ p.slot → (b : Instance) → IsInstance (said_meeting event) b × IsAfter bound b.start b.key.slot → ComesBefore b i → ⊥
@@ -436,7 +396,7 @@ module _ (event : declared.Event) (bound : Bound) (r : Option InstancePlace) (h 
 pub bound_same : (a b start slot : ℤ) → a ≡ start → b ≡ slot → bound_at a b ≡ bound_at start slot
 bound_same a b start slot e f = λ i. record { start = e i; slot = Some (f i) }
 
-pub passed_at : (master : Option EventComponent) (os : List EventComponent) (bound : Bound) (p : InstancePlace) (a b : ℤ) (days : RuleDays) → a ≡ p.start → b ≡ p.slot → IsAfter bound p.start p.slot
-    → HasPassed master os bound days → HasPassed master os (bound_at a b) days
-passed_at master os bound p a b days e f after h =
-    subst (λ (x : Bound). HasPassed master os x days) (sym (bound_same a b p.start p.slot e f)) (passed_more master os bound p days after h)
+pub passed_at : (master : Option Recurrence) (bound : Bound) (p : InstancePlace) (a b : ℤ) (days : RuleDays) → a ≡ p.start → b ≡ p.slot → IsAfter bound p.start p.slot
+    → HasPassed master bound days → HasPassed master (bound_at a b) days
+passed_at master bound p a b days e f after h =
+    subst (λ (x : Bound). HasPassed master x days) (sym (bound_same a b p.start p.slot e f)) (passed_more master bound p days after h)

@@ -1,7 +1,7 @@
 -- The instances of a meeting that an object says in a room: one at each place, in the dates that an event may name.
 -- Cited by Event::of_object of event, one_instance of event.
 use Rattle.std.proofs.Common.{◌≡◌, ◌∙◌, ℕ, List, [], ◌∷◌, filter, sym, ap, subst, inl, inr, arith, ℤ, ◌≤ℤ◌}
-use Rattle.std.specs.Prelude.{Option, Some, None, All, Contains, option_map}
+use Rattle.std.specs.Prelude.{Option, Some, None, All, Contains}
 use Rattle.std.specs.Option.{option_to_list}
 use Rattle.std.proofs.lemmas.Option.{same_Some}
 use Rattle.std.proofs.lemmas.List.Elements.{All-filter, All-contains}
@@ -12,9 +12,6 @@ use Rattle.profile.specs.checker.Instances.{Key, Instance}
 use Rattle.profile.specs.events.EventComponents.{EventComponent}
 use Rattle.profile.specs.events.Events.{Event, is_master, is_override, SaysEvent}
 use Rattle.profile.specs.events.Starts.{EndsAt, IsOfMaster, IsOfOverride, IsInstance, key_at}
-use Rattle.cal_events.specs.Clocks.{HasGoodClock}
-use Rattle.cal_events.specs.Component.{component_of}
-use Rattle.cal_events.specs.declared.component.EventComponent as declared
 use Rattle.cal_events.specs.MeetingComponents.{IsInEventDates}
 use Rattle.cal_events.proofs.shared_lemmas.OneInstance.{IsSound, end_one, ends_after, same_override, booked_same}
 use Rattle.cal_events.proofs.shared_lemmas.Placing.{all_sound}
@@ -61,7 +58,3 @@ module _ (words : List ℕ) (room : Option Zone) (named : IsRoomZone words room)
   dated a (inr h) =
       let o = override_sound h.override h.is in
       (o.names a.key.slot h.recurrence, subst IsInEventDates (sym h.starts) o.starts, ends_after h.override.times a.start a.end o.steady h.ends)
-
-  pub clock : (o : Option declared.EventComponent) → meeting.master ≡ option_map component_of o → (m : declared.EventComponent) → o ≡ Some m → HasGoodClock (component_of m)
-  clock o same m is =
-      let x = master_sound (component_of m) (same ∙ ap (option_map component_of) is) in (x.steady.meaning, x.steady.ascends)

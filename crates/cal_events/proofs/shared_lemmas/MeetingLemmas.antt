@@ -30,7 +30,7 @@ use Rattle.profile.specs.events.Events.{Event, as_added, taken_by, is_same_meeti
 use Rattle.cal_events.specs.Component.{component_of, IsFaultAmong}
 use Rattle.cal_events.specs.declared.component.EventComponent.{EventComponent}
 use Rattle.cal_events.specs.MeetingComponents.{instants_said, NameInstances, AreOfObject, AreOfObjectIn, IsNotOne, SharesSlot}
-use Rattle.cal_events.specs.Event.{said_meeting}
+use Rattle.cal_events.specs.Event.{TakesPlaceAs}
 use Rattle.cal_events.specs.declared.event.Event as declared
 use Rattle.cal_events.proofs.shared_lemmas.InOneOrder.{none_in, of_mapped}
 use Rattle.cal_events.proofs.shared_lemmas.ObjectFaults.{no_object}
@@ -248,8 +248,12 @@ meeting_written (Err f) object m vs room utc h = tt
 -- ---- octets
 
 pub meeting_spelled : (r : Result declared.Event Fault) (room : Option Zone) (octets : List ℕ) (c : Component) → reads_as_lines true octets ≡ true → IsObjectOf true c (logical_lines octets)
-    → IfOk r (λ event. SaysEvent room (tree_of c) None (said_meeting event)) → IfOk r (λ event. SpellsEvent room octets (said_meeting event))
-meeting_spelled (Ok event) room octets c lines object says = record { lines = lines; tree = tree_of c; object = object_tree true c (logical_lines octets) object; says = says }
+    → IfOk r (TakesPlaceAs (SaysEvent room (tree_of c) None)) → IfOk r (TakesPlaceAs (SpellsEvent room octets))
+meeting_spelled (Ok event) room octets c lines object says = record {
+  said = says.said;
+  is = record { lines = lines; tree = tree_of c; object = object_tree true c (logical_lines octets) object; says = says.is };
+  alike = says.alike;
+}
 meeting_spelled (Err f) room octets c lines object says = tt
 
 pub fault_there : (room : Option Zone) (octets : List ℕ) (c : Component) → IsObjectOf true c (logical_lines octets) → (f : Fault) → RefusesBy (EventFault room (tree_of c) None) f → RefusesBy (EventTextFault room octets) f

@@ -1,17 +1,16 @@
 -- The lines of a VEVENT say its times in at most one way, and not at all where they have a fault.
 -- Behind Calendar::of_object of calendar, Calendar::read of calendar, EventComponent::read of component, EventComponent::series of component, EventComponent::singles of component, EventComponent::singles_at of component and 17 more.
 use Rattle.std.proofs.Common.{◌≡◌, ℕ, ◌+◌, ◌*◌, ◌≤◌, Bool, true, false, List, length, codes, subst, sym, ap, ◌∙◌, inl, inr, arith, ℤ, pos, ◌+ℤ◌, ◌<ℤ◌}
-use Rattle.std.specs.Prelude.{Option, Some, None, is_some, All}
+use Rattle.std.specs.Prelude.{Option, Some, None, is_some}
 use Rattle.std.proofs.lemmas.Bool.{true≢false}
 use Rattle.std.proofs.lemmas.Int.{ints}
-use Rattle.std.proofs.lemmas.List.Elements.{All-from_recursion, All-contains}
 use Rattle.std.proofs.lemmas.Option.{same_Some}
 use Rattle.profile.specs.text.Lines.{line_value, line_param}
 use Rattle.profile.specs.text.Trees.{Tree}
 use Rattle.profile.specs.text.Values.{SpellsDuration, SpellsNegative}
 use Rattle.profile.specs.series.Zones.{Zone, Constant, IsOneMeaning, Means}
 use Rattle.profile.specs.events.Properties.{lines_named, IsMissing, OccursAtMostOnce, SomeLine, Form, Fixed, Floating, WholeDay, Length, length_seconds, LastsFor, IsNegativeOrLong}
-use Rattle.profile.specs.events.ZonedTimes.{zone_named, is_in_zone, SaysZoneOf, SpellsZoned, SaysZonedText, SaysZonedTime, clock_of, SaysInstant, IsInDates, SaysInDates, SaysOutOfDates, ZonedTextFault, SaysForm, EventTimes, IsCountedBy, SuitsForm, LastsUntil, LastsSo, LastsAlone, SaysEventTimes, SaysNoStart, SaysTimes, StartAndEndLie, names_of_times, EventTimesFault, bad_start, bad_end, bad_duration, ends_early, ends_late, lasts_long, starts_out, ends_out, other_form, part_of_day, no_start, twice, end_and_duration}
+use Rattle.profile.specs.events.ZonedTimes.{zone_named, is_in_zone, SaysZoneOf, SpellsZoned, SaysZonedText, SaysZonedTime, clock_of, SaysInstant, IsInDates, SaysInDates, SaysOutOfDates, ZonedTextFault, SaysForm, EventTimes, IsCountedBy, SuitsForm, LastsUntil, LastsSo, LastsAlone, SaysEventTimes, SaysNoStart, SaysTimes, StartAndEndLie, EventTimesFault, bad_start, bad_end, bad_duration, ends_early, ends_late, lasts_long, starts_out, ends_out, other_form, part_of_day, end_and_duration}
 use Rattle.profile.specs.events.Occurrences.{IsOutside}
 use Rattle.ical_tree.proofs.OneLine.{IsFunctional, same_option, only_line}
 use Rattle.cal_events.proofs.shared_lemmas.Meanings.{one_meaning}
@@ -224,14 +223,7 @@ module _ (one : OneZonedTime) (none : NoTimeFault) (two : OneDuration) (apart : 
       let b = one_instant one object last.0 times.form form (times.start +ℤ pos (length_seconds times.length)) end (dated true object last.0 times.form _ until.1) last.2 in
       subst (λ (z : ℤ). R times.start z) (sym b.1) (subst (λ (z : ℤ). R z end) (sym a.1) r)
 
-  all_lone : All (IsLone lines) names_of_times
-  all_lone =
-      All-from_recursion (IsLone lines) names_of_times (
-        at_most_one (codes "DTSTART") lines (Some s.line) s.once,
-        (at_most_one (codes "DTEND") lines s.end_line s.end_once, (at_most_one (codes "DURATION") lines s.duration_line s.duration_once, tt)),
-      )
-
-  pub no_times_fault : {may : Bool} (n : ℕ) → EventTimesFault may object lines n → ⊥
+  pub no_times_fault : (n : ℕ) → EventTimesFault object lines n → ⊥
   no_times_fault n (bad_start l) = none object l.0 (line_value l.0) times.form times.zone times.local n (start_said _ l) l.2
   no_times_fault n (bad_end l) = let until = (end_said _ l).1 in none object l.0 (line_value l.0) times.form until.0 until.1 n until.2 l.2
   no_times_fault n (bad_duration l) = l.2.0 times.length.days times.length.seconds (duration_said _ l)
@@ -256,8 +248,6 @@ module _ (one : OneZonedTime) (none : NoTimeFault) (two : OneDuration) (apart : 
       let e : times.length ≡ length = length_one two line times.length length suits.0 lasts in
       let none' : length.seconds ≡ 0 = subst (λ (x : Length). x.seconds ≡ 0) e none in
       absurd (omega (arith, none', part))
-  no_times_fault n (no_start _ h) = let k : 0 ≡ 1 = sym (ap length h) ∙ ap length s.once in absurd (omega (arith, k))
-  no_times_fault n (twice name c h) = let l = All-contains (IsLone lines) names_of_times name all_lone c in absurd (omega arith)
   no_times_fault n (end_and_duration e d) =
       go s.end_line s.duration_line (only_line (codes "DTEND") lines s.end_line e.0 s.end_once e.1) (only_line (codes "DURATION") lines s.duration_line d.0 s.duration_once d.1) s.lasts
     where
@@ -288,32 +278,23 @@ module _ (one : OneZonedTime) (none : NoTimeFault) (two : OneDuration) (apart : 
       go (Some x) (Some o) h lasts = absurd lasts
       go None (Some o) h lasts = subst (λ (y : List ℕ). LastsFor y times.length) (same_Some o l.0 h) lasts
 
-  none_twice : All (IsLone lines) names_of_times
-  none_twice =
-      All-from_recursion (IsLone lines) names_of_times (
-        at_most_one (codes "DTSTART") lines None s.missing,
-        (at_most_one (codes "DTEND") lines s.end_line s.end_once, (at_most_one (codes "DURATION") lines s.duration_line s.duration_once, tt)),
-      )
-
-  no_alone_fault : {may : Bool} → may ≡ true → (n : ℕ) → EventTimesFault may object lines n → ⊥
-  no_alone_fault m n (bad_start l) = none_there _ lines s.missing l
-  no_alone_fault m n (bad_end l) = let (form, end, (zone, local, says, means, dates)) = end_alone _ l in none object l.0 (line_value l.0) form zone local n says l.2
-  no_alone_fault m n (bad_duration l) = l.2.0 times.length.days times.length.seconds (duration_alone _ l)
-  no_alone_fault m n (ends_early (form, start, end, first, last, r)) = none_there _ lines s.missing first
-  no_alone_fault m n (ends_late (form, start, end, first, last, r)) = none_there _ lines s.missing first
-  no_alone_fault m n (lasts_long (line, at, inl negative)) =
+  no_alone_fault : (n : ℕ) → EventTimesFault object lines n → ⊥
+  no_alone_fault n (bad_start l) = none_there _ lines s.missing l
+  no_alone_fault n (bad_end l) = let (form, end, (zone, local, says, means, dates)) = end_alone _ l in none object l.0 (line_value l.0) form zone local n says l.2
+  no_alone_fault n (bad_duration l) = l.2.0 times.length.days times.length.seconds (duration_alone _ l)
+  no_alone_fault n (ends_early (form, start, end, first, last, r)) = none_there _ lines s.missing first
+  no_alone_fault n (ends_late (form, start, end, first, last, r)) = none_there _ lines s.missing first
+  no_alone_fault n (lasts_long (line, at, inl negative)) =
       apart (line_value line) times.length.days times.length.seconds (duration_alone IsNegativeOrLong (line, at, inl negative)) negative
-  no_alone_fault m n (lasts_long (line, at, inr (length, lasts, long))) =
+  no_alone_fault n (lasts_long (line, at, inr (length, lasts, long))) =
       let e = length_one two line times.length length (duration_alone IsNegativeOrLong (line, at, inr (length, lasts, long))) lasts in
       let most : length_seconds length ≤ 31_622_400 = subst (λ (x : Length). length_seconds x ≤ 31_622_400) e s.most in
       absurd (omega arith)
-  no_alone_fault m n (starts_out l) = none_there _ lines s.missing l
-  no_alone_fault m n (ends_out l) = let (form, end, (zone, local, says, means, dates)) = end_alone _ l in not_out one true object l.0 form zone local end says means dates l.2
-  no_alone_fault m n (other_form (start, end, first, last, differ)) = none_there _ lines s.missing first
-  no_alone_fault m n (part_of_day (length, first, last, part)) = none_there _ lines s.missing first
-  no_alone_fault m n (no_start needed h) = true≢false (sym m ∙ needed)
-  no_alone_fault m n (twice name c h) = let l = All-contains (IsLone lines) names_of_times name none_twice c in absurd (omega arith)
-  no_alone_fault m n (end_and_duration e d) =
+  no_alone_fault n (starts_out l) = none_there _ lines s.missing l
+  no_alone_fault n (ends_out l) = let (form, end, (zone, local, says, means, dates)) = end_alone _ l in not_out one true object l.0 form zone local end says means dates l.2
+  no_alone_fault n (other_form (start, end, first, last, differ)) = none_there _ lines s.missing first
+  no_alone_fault n (part_of_day (length, first, last, part)) = none_there _ lines s.missing first
+  no_alone_fault n (end_and_duration e d) =
       go s.end_line s.duration_line (only_line (codes "DTEND") lines s.end_line e.0 s.end_once e.1) (only_line (codes "DURATION") lines s.duration_line d.0 s.duration_once d.1) s.lasts
     where
       go : (x y : Option (List ℕ)) → x ≡ Some e.0 → y ≡ Some d.0 → LastsAlone object x y times.length → ⊥
@@ -321,6 +302,25 @@ module _ (one : OneZonedTime) (none : NoTimeFault) (two : OneDuration) (apart : 
       go (Some x) None h k is = cc
       go (Some x) (Some y) h k is = is
 
-pub no_times_fault_by : OneZonedTime → NoTimeFault → OneDuration → NotBoth → {may : Bool} (object : Tree) (lines : Lines) (times : EventTimes) → SaysTimes may object lines times → (n : ℕ) → EventTimesFault may object lines n → ⊥
+pub no_times_fault_by : OneZonedTime → NoTimeFault → OneDuration → NotBoth → {may : Bool} (object : Tree) (lines : Lines) (times : EventTimes) → SaysTimes may object lines times → (n : ℕ) → EventTimesFault object lines n → ⊥
 no_times_fault_by one none two apart object lines times (inl s) n f = no_times_fault one none two apart object lines times s n f
-no_times_fault_by one none two apart object lines times (inr (m, s)) n f = no_alone_fault one none two apart object lines times s m n f
+no_times_fault_by one none two apart object lines times (inr (m, s)) n f = no_alone_fault one none two apart object lines times s n f
+
+-- ---- how often the properties of the times occur
+
+pub times_lone : {may : Bool} (object : Tree) (lines : Lines) (times : EventTimes) → SaysTimes may object lines times
+    → IsLone lines (codes "DTSTART") × IsLone lines (codes "DTEND") × IsLone lines (codes "DURATION")
+times_lone object lines times (inl s) = (
+  at_most_one (codes "DTSTART") lines (Some s.line) s.once,
+  at_most_one (codes "DTEND") lines s.end_line s.end_once,
+  at_most_one (codes "DURATION") lines s.duration_line s.duration_once,
+)
+times_lone object lines times (inr (m, s)) = (
+  at_most_one (codes "DTSTART") lines None s.missing,
+  at_most_one (codes "DTEND") lines s.end_line s.end_once,
+  at_most_one (codes "DURATION") lines s.duration_line s.duration_once,
+)
+
+pub start_there : {may : Bool} (object : Tree) (lines : Lines) (times : EventTimes) → SaysTimes may object lines times → may ≡ false → IsMissing (codes "DTSTART") lines → ⊥
+start_there object lines times (inl s) needed h = let k : 0 ≡ 1 = sym (ap length h) ∙ ap length s.once in absurd (omega (arith, k))
+start_there object lines times (inr (m, s)) needed h = true≢false (sym m ∙ needed)

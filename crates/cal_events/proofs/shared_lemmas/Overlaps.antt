@@ -20,6 +20,8 @@ use Rattle.cal_events.specs.Instances.{IsAfter, IsPastSlot}
 use Rattle.cal_events.specs.Left.{IsLeft, GivesFirst}
 use Rattle.cal_events.specs.MeetingComponents.{IsInEventDates}
 use Rattle.cal_events.specs.Event.{said_meeting}
+use Rattle.cal_events.specs.Recurrence.{master_of}
+use Rattle.cal_events.specs.declared.recurrence.Recurrence.{Recurrence}
 use Rattle.cal_events.specs.declared.event.Event as declared
 use Rattle.cal_events.specs.declared.component.EventComponent.{EventComponent}
 use Rattle.cal_events.specs.declared.instance.Instance.{Instance}
@@ -57,10 +59,10 @@ last_more os k x m n r w e all one le le' o c =
 pub last_whole : (os : List EventComponent) (k : ℕ) (n : ℤ) → length os ≤ k → AllLast (take k os) n → AllLast os n
 last_whole os k n le h = subst (λ (l : List EventComponent). AllLast l n) (take_all k os le) h
 
-pub instance_lasts : (event : declared.Event) (n : ℤ) → ((c : EventComponent) → event.master ≡ Some c → LastAtMost (times_of c.times) n) → AllLast event.overrides.items n
+pub instance_lasts : (event : declared.Event) (n : ℤ) → ((c : Recurrence) → event.recurrence ≡ Some c → LastAtMost (times_of c.times) n) → AllLast event.overrides.items n
     → (b : SaidInstance) → IsInstance (said_meeting event) b → b.end ≤ℤ (b.start +ℤ n)
 instance_lasts event n master overrides b (inl i) =
-    let m = of_option event.master i.master i.is in
+    let m = of_option (master_of event.name) event.recurrence i.master i.is in
     master m.0 m.1 b.start b.end (subst (λ (e : SaidComponent). EndsAt e.times b.start b.end) (sym m.2) i.ends)
 instance_lasts event n master overrides b (inr i) =
     let m = of_list event.overrides.items i.override i.is in

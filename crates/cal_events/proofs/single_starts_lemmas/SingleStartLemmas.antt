@@ -3,13 +3,12 @@
 use Rattle.std.proofs.Common.{◌≡◌, ◌∙◌, ℕ, zero, suc, ◌+◌, ◌-◌, ◌<◌, ◌≤◌, true, false, List, [], ◌∷◌, ◌++◌, take, length, get_or, subst, sym, refl, ap, inl, inr, ◌⊎◌, arith, ℤ, ◌<ℤ◌, ◌≤ℤ◌}
 use Rattle.std.specs.Prelude.{Option, Some, None, AllPairs, Contains, Bool, not, IsTrue, is_some, ◌↔◌}
 use Rattle.std.specs.Ordering.{int_cmp}
-use Rattle.std.specs.List.Sorted.{IsPermutation, IsSorted}
+use Rattle.std.specs.List.Sorted.{IsSorted}
 use Rattle.std.proofs.lemmas.Bool.{cases_order, false≢true, true≢false}
 use Rattle.std.proofs.lemmas.Int.{ints, by_lt_z}
 use Rattle.std.proofs.lemmas.Option.{same_Some}
 use Rattle.std.proofs.lemmas.List.{take_all, take_more, get_or_default, length-take-le, get_or-take}
 use Rattle.std.proofs.lemmas.List.Elements.{Contains-push_cases, Contains-push, Contains-append_left}
-use Rattle.std.proofs.lemmas.List.Sorted.{IsPermutation-sym, Contains-permutation}
 use Rattle.profile.specs.series.Rules.{Rule, IsNextDay, NoDayFrom}
 use Rattle.profile.specs.series.Zones.{Means, IsOneMeaning, local_time}
 use Rattle.profile.specs.events.EventComponents.{EventComponent}
@@ -28,12 +27,12 @@ use Rattle.cal_events.proofs.shared_lemmas.InstanceLemmas.{none_earlier, one_sec
 
 -- ---- candidates
 
-module _ (master : EventComponent) (xs sorted : List ℤ) (same : IsPermutation xs sorted) where
+module _ (master : EventComponent) (xs sorted : List ℤ) (same : (t : ℤ) → Contains sorted t ↔ Contains xs t) where
   there : (t : ℤ) → Contains sorted t → Contains xs t
-  there t c = Contains-permutation sorted xs t (IsPermutation-sym xs sorted same) c
+  there t c = (same t).0 c
 
   back : (t : ℤ) → Contains xs t → Contains sorted t
-  back t c = Contains-permutation xs sorted t same c
+  back t c = (same t).1 c
 
   pub with_dtstart : master.rule ≡ None → xs ≡ master.additions ++ master.times.start ∷ [] → (t : ℤ) → Contains sorted t ↔ IsCandidate master t
   with_dtstart none is t = (
@@ -108,10 +107,10 @@ module _ (master : EventComponent) (instant : ℤ) (rule : Rule) (is : master.ru
 
 -- ---- whether a candidate is left over
 
-module _ (master : EventComponent) (hidden : List ℤ) (instant : ℤ) (r : Bool) (same : IsPermutation master.exceptions hidden) where
+module _ (master : EventComponent) (hidden : List ℤ) (instant : ℤ) (r : Bool) (same : (t : ℤ) → Contains hidden t ↔ Contains master.exceptions t) where
   pub left_over : IsInEventDates instant × (Contains hidden instant → ⊥) → IsTrue r ↔ IsOnRule master instant → IsTrue (not r) ↔ IsLeftOver master instant
   left_over (named, none) on = (
-    (λ h. (named, (λ c. none (Contains-permutation master.exceptions hidden instant same c)), λ given. both r h (on.1 given))),
+    (λ h. (named, (λ c. none ((same instant).1 c)), λ given. both r h (on.1 given))),
     λ h. neither r (λ t. h.2 (on.0 t)),
   )
     where
@@ -126,7 +125,7 @@ module _ (master : EventComponent) (hidden : List ℤ) (instant : ℤ) (r : Bool
   pub not_left_over : r ≡ false → IsTrue r ↔ (IsInEventDates instant × (Contains hidden instant → ⊥)) → IsTrue r ↔ IsLeftOver master instant
   not_left_over isnt starts = (
     (λ h. absurd (true≢false (sym h ∙ isnt))),
-    λ h. starts.1 (h.0, λ c. h.1 (Contains-permutation hidden master.exceptions instant (IsPermutation-sym master.exceptions hidden same) c)),
+    λ h. starts.1 (h.0, λ c. h.1 ((same instant).0 c)),
   )
 
 -- ---- one candidate after another

@@ -22,13 +22,15 @@ use Rattle.cal_zones.specs.declared.zone.Form as kinds
 use Rattle.cal_zones.specs.declared.zone.Form.TheVariants as kind
 use Rattle.cal_zones.specs.declared.zone.Zone as declared_zone
 use Rattle.cal_zones.proofs.Meant.{meant, in_force}
-use Rattle.cal_events.specs.Component.{component_of, times_of, form_said, zone_said, local_said}
+use Rattle.cal_events.specs.Component.{times_of, form_said, zone_said, local_said}
 use Rattle.cal_events.specs.declared.when.When.{When}
 use Rattle.cal_events.specs.declared.when.When.TheVariants.{Utc, Zoned, Floating, WholeDay}
 use Rattle.cal_events.specs.MeetingComponents.{IsInEventDates}
 use Rattle.cal_events.specs.OwnInstances.{IsTimely}
 use Rattle.cal_events.specs.Series.{series_said, IsSeriesOf, IsSeriesWithout}
-use Rattle.cal_events.specs.declared.component.EventComponent.{EventComponent}
+use Rattle.cal_events.specs.Recurrence.{master_of}
+use Rattle.cal_events.specs.declared.recurrence.EventName.{EventName}
+use Rattle.cal_events.specs.declared.recurrence.Recurrence.{Recurrence}
 use Rattle.cal_events.specs.declared.event_times.EventTimes as declared
 use Rattle.cal_events.specs.declared.series.Series.{Series}
 use Rattle.cal_events.proofs.shared_lemmas.CountedFrom.{counted_there}
@@ -100,11 +102,11 @@ end_on times one start = let l = later_on times.length.days in (l.0 +ℤ pos tim
 
 -- ---- the starts that a rule gives
 
-module _ (master : EventComponent) (rule : Rule) (one : IsOneMeaning (clock_of (component_of master).times.zone)) where
+module _ (master : Recurrence) (rule : Rule) (one : IsOneMeaning (clock_of (times_of master.times).zone)) where
   module _ (second : ℕ) where
     -- on a day before that one
     abbrev IsBelow : ℕ → ℤ → Type 0
-    IsBelow k t = (day : ℕ) × (day < k) × (is_rule_day rule day ≡ true) × Means (clock_of (component_of master).times.zone) (local_time day second) t
+    IsBelow k t = (day : ℕ) × (day < k) × (is_rule_day rule day ≡ true) × Means (clock_of (times_of master.times).zone) (local_time day second) t
 
     below : (k : ℕ) → (starts : List ℤ) × ((t : ℤ) → Contains starts t ↔ IsBelow k t)
     below zero = ([], λ t. ((λ c. absurd (none_in t c)), λ h. absurd (omega (arith, h.1))))
@@ -119,12 +121,12 @@ module _ (master : EventComponent) (rule : Rule) (one : IsOneMeaning (clock_of (
               m.0 ∷ r.0,
               λ t. (
                 (λ c. elim (first_or_later m.0 t r.0 c) [
-                  | inl same ↦ (n, omega arith, e, subst (Means (clock_of (component_of master).times.zone) (local_time n second)) same m.1)
+                  | inl same ↦ (n, omega arith, e, subst (Means (clock_of (times_of master.times).zone) (local_time n second)) same m.1)
                   | inr d ↦ later_day t ((r.1 t).0 d)
                 ]),
                 λ h. elim (cases_order h.0 n) [
                   | inl at ↦
-                      let same : m.0 ≡ t = one (local_time n second) m.0 t m.1 (subst (λ (x : ℕ). Means (clock_of (component_of master).times.zone) (local_time x second) t) at h.3) in
+                      let same : m.0 ≡ t = one (local_time n second) m.0 t m.1 (subst (λ (x : ℕ). Means (clock_of (times_of master.times).zone) (local_time x second) t) at h.3) in
                       subst (Contains (m.0 ∷ r.0)) same (zero, omega arith, refl)
                   | inr o ↦ elim o [
                     | inl less ↦ later m.0 t r.0 ((r.1 t).1 (h.0, less, h.2, h.3))
@@ -148,7 +150,7 @@ module _ (master : EventComponent) (rule : Rule) (one : IsOneMeaning (clock_of (
         )
 
   abbrev HasStarts : List ℤ → Type 0
-  HasStarts starts = (t : ℤ) → Contains starts t ↔ IsRuleStart (component_of master).times rule t
+  HasStarts starts = (t : ℤ) → Contains starts t ↔ IsRuleStart (times_of master.times) rule t
 
   rule_starts : (k : ℕ) → 3_652_424 < k → (starts : List ℤ) × HasStarts starts
   rule_starts k past = go (local_said master.times.start +ℤ pos 62_167_219_200) refl
@@ -165,7 +167,7 @@ module _ (master : EventComponent) (rule : Rule) (one : IsOneMeaning (clock_of (
                 r.day,
                 omega (arith, past, last_of_rule rule r.day r.listed),
                 r.listed,
-                subst (λ (x : ℕ). Means (clock_of (component_of master).times.zone) (local_time r.day x) t) (one_second (local_said master.times.start) r.first (n / 86_400) r.second second r.on on) r.means,
+                subst (λ (x : ℕ). Means (clock_of (times_of master.times).zone) (local_time r.day x) t) (one_second (local_said master.times.start) r.first (n / 86_400) r.second second r.on on) r.means,
               ),
             ),
           )
@@ -173,41 +175,41 @@ module _ (master : EventComponent) (rule : Rule) (one : IsOneMeaning (clock_of (
 
 -- ---- the instances
 
-module _ (master : EventComponent) (clock : IsOneMeaning (clock_of (component_of master).times.zone)) (one : (a b : Instance) → IsInstance (of_master (component_of master)) a → IsInstance (of_master (component_of master)) b → a.start ≡ b.start → a ≡ b) where
+module _ (name : EventName) (master : Recurrence) (clock : IsOneMeaning (clock_of (times_of master.times).zone)) (one : (a b : Instance) → IsInstance (of_master (master_of name master)) a → IsInstance (of_master (master_of name master)) b → a.start ≡ b.start → a ≡ b) where
   abbrev IsOwn : Instance → Type 0
-  IsOwn b = IsInstance (of_master (component_of master)) b
+  IsOwn b = IsInstance (of_master (master_of name master)) b
 
   -- a start is in the dates and isn't excepted, or this doesn't hold
   abbrev IsShown : ℤ → Type 0
-  IsShown t = IsInEventDates t × (Contains master.exceptions.items t → ⊥)
+  IsShown t = IsInEventDates t × (Contains master.exceptions t → ⊥)
 
   shown : (t : ℤ) → IsShown t ⊎ (IsShown t → ⊥)
   shown t =
       by_lt_z t first_second
       (λ early. inr (λ s. omega (arith, ints, early, s.0.0)))
-      (λ from. by_lt_z t horizon (λ before. listed (list_any (λ own. int_eq own t) master.exceptions.items) refl (from, before)) (λ late. inr (λ s. omega (arith, ints, late, s.0.1))))
+      (λ from. by_lt_z t horizon (λ before. listed (list_any (λ own. int_eq own t) master.exceptions) refl (from, before)) (λ late. inr (λ s. omega (arith, ints, late, s.0.1))))
     where
-      listed : (b : Bool) → list_any (λ own. int_eq own t) master.exceptions.items ≡ b → IsInEventDates t → IsShown t ⊎ (IsShown t → ⊥)
-      listed true e named = inr (λ s. s.1 (has_at master.exceptions.items t e))
-      listed false e named = inl (named, λ c. true≢false (sym (has_from master.exceptions.items t c) ∙ e))
+      listed : (b : Bool) → list_any (λ own. int_eq own t) master.exceptions ≡ b → IsInEventDates t → IsShown t ⊎ (IsShown t → ⊥)
+      listed true e named = inr (λ s. s.1 (has_at master.exceptions t e))
+      listed false e named = inl (named, λ c. true≢false (sym (has_from master.exceptions t c) ∙ e))
 
   abbrev booked : ℤ → Instance
-  booked t = record { key = key_at (component_of master) t; start = t; end = (end_on master.times clock t).0 }
+  booked t = record { key = key_at (master_of name master) t; start = t; end = (end_on master.times clock t).0 }
 
-  own : (t : ℤ) → IsGiven (component_of master).times (component_of master).rule t → IsShown t → IsOwn (booked t)
-  own t given s = from_start (component_of master) (booked t) (record {
+  own : (t : ℤ) → IsGiven (times_of master.times) (master_of name master).rule t → IsShown t → IsOwn (booked t)
+  own t given s = from_start (master_of name master) (booked t) (record {
     starts = record { given = inl given; in_dates = s.0; not_excepted = s.1; not_replaced = λ r. none_in _ r.among };
     key = refl;
     ends = (end_on master.times clock t).1 s.0;
   })
 
   own_shown : (b : Instance) → IsOwn b → IsShown b.start
-  own_shown b h = let x = at_start (component_of master) b h in (x.starts.in_dates, x.starts.not_excepted)
+  own_shown b h = let x = at_start (master_of name master) b h in (x.starts.in_dates, x.starts.not_excepted)
 
   abbrev AreAt : List ℤ → List Instance → Type 0
   AreAt starts all = (b : Instance) → Contains all b ↔ (Contains starts b.start × IsOwn b)
 
-  picked : (starts : List ℤ) → ((t : ℤ) → Contains starts t → IsGiven (component_of master).times (component_of master).rule t) → (all : List Instance) × AreAt starts all
+  picked : (starts : List ℤ) → ((t : ℤ) → Contains starts t → IsGiven (times_of master.times) (master_of name master).rule t) → (all : List Instance) × AreAt starts all
   picked [] given = ([], λ b. ((λ c. absurd (none_in b c)), λ h. absurd (none_in b.start h.0)))
   picked (x ∷ xs) given = go (shown x) (picked xs (λ t c. given t (later x t xs c)))
     where
@@ -241,33 +243,34 @@ pub listed_instances : (series : Series) → (all : List Instance) × ((b : Inst
 listed_instances series =
     let event = series.event in
     let m = own_master event series.ruled in
+    let name = event.name in
     let master = m.0 in
     let ruled = some_there master.rule (series.ruled.1.0 master m.1).0 in
     let rule = ruled.0 in
-    let clock = (event.clock master m.1).0 in
+    let clock = master.steady.meaning in
     let starts = rule_starts master rule clock 3_652_425 (omega arith) in
-    let given : (t : ℤ) → Contains starts.0 t → IsGiven (component_of master).times (component_of master).rule t = λ t c. rule_gives (component_of master).times (component_of master).rule rule t ruled.1 ((starts.1 t).0 c) in
-    let one : (a b : Instance) → IsInstance (of_master (component_of master)) a → IsInstance (of_master (component_of master)) b → a.start ≡ b.start → a ≡ b =
+    let given : (t : ℤ) → Contains starts.0 t → IsGiven (times_of master.times) (master_of name master).rule t = λ t c. rule_gives (times_of master.times) (master_of name master).rule rule t ruled.1 ((starts.1 t).0 c) in
+    let one : (a b : Instance) → IsInstance (of_master (master_of name master)) a → IsInstance (of_master (master_of name master)) b → a.start ≡ b.start → a ≡ b =
     λ a b h k start.
     let x = subst (λ (w : Whole). IsInstance w a) (sym m.2) h in
     let y = subst (λ (w : Whole). IsInstance w b) (sym m.2) k in
     one_start event series.ruled a b x y start ((at_its_start event series.ruled a x).0 ∙ start ∙ sym (at_its_start event series.ruled b y).0) in
-    let all = picked master clock one starts.0 given in (
+    let all = picked name master clock one starts.0 given in (
       all.0,
       λ b. (
         (λ c. subst (λ (w : Whole). IsInstance w b) (sym m.2) ((all.1 b).0 c).1),
         λ h.
             let k = subst (λ (w : Whole). IsInstance w b) m.2 h in
-            (all.1 b).1 ((starts.1 b.start).1 (starts_by_rule master rule ruled.1 (series.ruled.1.0 master m.1).1 b (at_start (component_of master) b k)), k),
+            (all.1 b).1 ((starts.1 b.start).1 (starts_by_rule name master rule ruled.1 (series.ruled.1.0 master m.1).1 b (at_start (master_of name master) b k)), k),
       ),
     )
   where
     -- nothing is added to it
-    starts_by_rule : (master : EventComponent) (rule : Rule) → master.rule ≡ Some rule → length master.additions.items ≡ 0 → (b : Instance) → IsAtStart (component_of master) b
-        → IsRuleStart (component_of master).times rule b.start
-    starts_by_rule master rule is none b x = elim x.starts.given [
-      | inl g ↦ subst (λ (o : Option Rule). IsGiven (component_of master).times o b.start) is g
-      | inr c ↦ absurd (none_in b.start (subst (λ (l : List ℤ). Contains l b.start) (empty_list master.additions.items none) c))
+    starts_by_rule : (name : EventName) (master : Recurrence) (rule : Rule) → master.rule ≡ Some rule → length master.additions ≡ 0 → (b : Instance) → IsAtStart (master_of name master) b
+        → IsRuleStart (times_of master.times) rule b.start
+    starts_by_rule name master rule is none b x = elim x.starts.given [
+      | inl g ↦ subst (λ (o : Option Rule). IsGiven (times_of master.times) o b.start) is g
+      | inr c ↦ absurd (none_in b.start (subst (λ (l : List ℤ). Contains l b.start) (empty_list master.additions none) c))
     ]
 
 -- all instances of a series

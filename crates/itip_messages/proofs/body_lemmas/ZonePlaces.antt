@@ -1,16 +1,16 @@
--- The octets of a content: its lines, and then its zone, which begins two octets before the first `G`. And its lines under the name of the zone.
+-- The octets of a content: its lines, and then its zone, which begins with the first line that begins one. And its lines under the name of the zone.
 -- Cited by zone_lines.
-use Rattle.std.proofs.Common.{◌≡◌, ◌∙◌, refl, sym, ap, subst, ℕ, zero, suc, ◌+◌, ◌-◌, ◌<◌, ◌≤◌, nat_lt, Bool, true, false, not, ◌&&◌, cond, ℤ, List, [], ◌∷◌, ◌++◌, map, length, take, get_or, codes, Option, None, Some, arith, append_assoc, append-nil}
+use Rattle.std.proofs.Common.{◌≡◌, ◌∙◌, refl, sym, ap, subst, ℕ, zero, suc, ◌+◌, ◌-◌, ◌<◌, ◌≤◌, nat_lt, Bool, true, false, not, ◌&&◌, cond, ℤ, List, [], ◌∷◌, ◌++◌, map, length, take, drop, get_or, unwrap_or, codes, Option, None, Some, arith, append_assoc, append-nil}
 use Rattle.std.specs.Prelude.{◌==◌}
 use Rattle.std.specs.List.{list_all, flat_map, AllZip, position_or_len}
 use Rattle.std.specs.Str.{IsUtf8}
-use Rattle.std.proofs.lemmas.Bool.{and_parts, and_from, not-true, false_from_ne_true}
-use Rattle.std.proofs.lemmas.Bool.Decides.{nat_tests}
+use Rattle.std.proofs.lemmas.Bool.{and_parts, and_from, not-true, true≢false}
 use Rattle.std.proofs.lemmas.List.Folds.{list_all-append}
 use Rattle.std.proofs.lemmas.List.{length-append, take_at, drop_at, map-append}
-use Rattle.std.proofs.lemmas.List.Sums.{position_or_len_is}
+use Rattle.std.proofs.lemmas.List.Sums.{fails_before_first}
 use Rattle.std.proofs.lemmas.Str.{IsUtf8-append}
-use Rattle.memchr.specs.Find.{IsFirstByte, is_byte}
+use Rattle.memchr.specs.Find.{FindsNeedle, NoneBefore, Nowhere, OccursAt}
+use Rattle.memchr.proofs.lemmas.MatchLemmas.{OccursAt-from_part, matches-none, matches-first}
 use Rattle.profile.specs.events.EventComponents.{EventComponent}
 use Rattle.profile.specs.events.Occurrences.{Time}
 use Rattle.profile.specs.events.Properties.{BothOrNeither, Form, Fixed, Floating, WholeDay}
@@ -27,7 +27,7 @@ use Rattle.profile.specs.rooms.Kept.{renamed}
 use Rattle.ical_lines.proofs.CleanLines.{is_shown, shown_append, clean_shown}
 use Rattle.ical_values.proofs.ShownValues.{shown_local, shown_offset}
 use Rattle.itip_messages.proofs.shared_lemmas.WrittenOctets.{both_pass, date_passes, stamp_passes, local_passes, duration_passes, is_early, early_time, early_shown, rule_text_early, rule_lines_shown}
-use Rattle.itip_messages.specs.Body.{IsCutAtZone, before_g, begins_zone, crlf_lines, writes_as, zone_octets, zone_place}
+use Rattle.itip_messages.specs.Body.{IsCutAtZone, crlf_lines, writes_as, zone_line, zone_octets, zone_place}
 use Rattle.itip_messages.proofs.shared_lemmas.CleanBodies.{Lines, AreClean, clean_each_shown, clean_take, written_utf8, utf8_ended, IsBodyOf, body_ended}
 
 -- ---- the lines of a content
@@ -188,42 +188,36 @@ past_lines (line ∷ lines) h rest =
     counted : (line more : List ℕ) (n : ℕ) → length line + (1 + (1 + (length more + n))) ≡ length ((line ++ codes "\r\n") ++ more) + n
     counted line more n = omega (arith, length-append (line ++ codes "\r\n") more, length-append line (13 ∷ 10 ∷ []))
 
-placed : (octets : List ℕ) (b : Bool) → begins_zone octets ≡ b → zone_place octets ≡ cond b (before_g octets - 2) (length octets)
-placed octets b h = ap (λ x. cond x (before_g octets - 2) (length octets)) h
+-- among what comes before them there is no `G`, the third octet of the line that begins a zone
+none_before_g : (octets : List ℕ) (n : ℕ) → position_or_len is_g octets ≡ n → (k : ℕ) → k + 2 < n → OccursAt octets zone_line k → ⊥
+none_before_g octets n e k l o =
+    let lacks : is_g (get_or octets (k + 2) 0) ≡ false = fails_before_first is_g octets (k + 2) 0 (omega (arith, l, e)) in
+    true≢false (ap is_g (sym (o.reads 2 (omega arith))) ∙ lacks)
 
-within : (p n m : ℕ) → p ≡ m → m < n → nat_lt p n ≡ true
-within p n m e l = grind (arith, nat_tests)
-
-not_within : (p n m : ℕ) → p ≡ m → n ≡ m → nat_lt p n ≡ false
-not_within p n m e f = grind (arith, nat_tests)
-
--- the first octet of what follows this many
-after_front : (front rest : List ℕ) (n : ℕ) → n ≡ length front → get_or (front ++ rest) n 0 ≡ get_or rest 0 0
-after_front [] rest n e = ap (λ k. get_or rest k 0) e
-after_front (c ∷ front) rest zero e = absurd (omega (arith, e))
-after_front (c ∷ front) rest (suc n) e = after_front front rest n (omega (arith, e))
-
--- the zone begins two octets before the first `G`, and where there is no `G` there is no zone
+-- the zone begins with the first line that begins one, and where there is no such line there is no zone
 module _ (content : Content) (event : EventComponent) (c : IsContent content event) where
   abbrev front : List ℕ
   front = crlf_lines content.lines
 
-  first_g : (rest : List ℕ) → zone_octets content.zone ≡ rest → before_g (canonical content) ≡ length front + position_or_len is_g rest
+  first_g : (rest : List ℕ) → zone_octets content.zone ≡ rest → position_or_len is_g (canonical content) ≡ length front + position_or_len is_g rest
   first_g rest e = past_lines content.lines (early_lines content event c) (zone_octets content.zone) ∙ ap (λ l. length front + position_or_len is_g l) e
 
   zone_begins_at : (zone : Option (List ℕ)) → content.zone ≡ zone → zone_place (canonical content) ≡ length front
   zone_begins_at None e =
       let none : zone_octets content.zone ≡ [] = ap zone_octets e in
       let all : length (canonical content) ≡ length front = ap (λ l. length (front ++ l)) none ∙ ap length (append-nil front) in
-      let before : before_g (canonical content) ≡ length front = first_g [] none ∙ omega arith in
-      placed (canonical content) false (ap (λ b. b && (get_or (canonical content) (before_g (canonical content) - 2) 0 == 66)) (not_within (before_g (canonical content)) (length (canonical content)) (length front) before all)) ∙ all
+      let before : position_or_len is_g (canonical content) ≡ length front = first_g [] none ∙ omega arith in
+      let nowhere : Nowhere (OccursAt (canonical content) zone_line) 0 (length (canonical content) + 1) = λ k low high o. none_before_g (canonical content) (length front) before k (omega (arith, all, o.fits)) o in
+      ap (λ ks. get_or ks 0 (length (canonical content))) (matches-none (canonical content) zone_line 0 nowhere) ∙ all
   zone_begins_at (Some rest) e =
       let there : zone_octets content.zone ≡ zone_head ++ rest = ap zone_octets e ∙ zone_behind rest in
-      let all : length (canonical content) ≡ length front + length (zone_head ++ rest) = ap (λ l. length (front ++ l)) there ∙ length-append front (zone_head ++ rest) in
-      let before : before_g (canonical content) ≡ length front + 2 = first_g (zone_head ++ rest) there in
-      let at : before_g (canonical content) - 2 ≡ length front = omega (arith, before) in
-      let octet : get_or (canonical content) (before_g (canonical content) - 2) 0 ≡ 66 = ap (λ l. get_or (front ++ l) (before_g (canonical content) - 2) 0) there ∙ after_front front (zone_head ++ rest) (before_g (canonical content) - 2) at in
-      placed (canonical content) true (and_from _ _ (within (before_g (canonical content)) (length (canonical content)) (length front + 2) before (omega (arith, all))) (ap (λ o. o == 66) octet)) ∙ at
+      let is : canonical content ≡ front ++ (zone_head ++ rest) = ap (λ l. front ++ l) there in
+      let all : length (canonical content) ≡ length front + length (zone_head ++ rest) = ap length is ∙ length-append front (zone_head ++ rest) in
+      let before : position_or_len is_g (canonical content) ≡ length front + 2 = first_g (zone_head ++ rest) there in
+      let occurs : OccursAt (canonical content) zone_line (length front) =
+      OccursAt-from_part (canonical content) zone_line (length front) (omega (arith, all)) (ap (λ l. take (length zone_line) (drop (length front) l)) is ∙ ap (take (length zone_line)) (drop_at front (zone_head ++ rest) (length front) refl)) in
+      let first : NoneBefore (OccursAt (canonical content) zone_line) 0 (length (canonical content) + 1) (length front) = record { low = omega arith; high = omega (arith, all); before = λ k low high o. none_before_g (canonical content) (length front + 2) before k (omega (arith, high)) o } in
+      ap (λ ks. get_or ks 0 (length (canonical content))) (matches-first (canonical content) zone_line 0 (length front) first occurs)
 
   pub zone_begins : zone_place (canonical content) ≡ length front
   zone_begins = zone_begins_at content.zone refl
@@ -235,25 +229,10 @@ cut_at_zone content event c place e =
     let n : length a ≡ place = sym (zone_begins content event c) ∙ sym e in
     record { inside = omega (arith, n, length-append a z); before = take_at a z place n; after = drop_at a z place n }
 
--- the same in the words of memchr's contract
-first_found : (xs : List ℕ) (third : ℕ) → IsFirstByte (is_byte 71) xs (Some third) → before_g xs ≡ third
-first_found xs third h = position_or_len_is is_g xs third 0 (omega (arith, h.0.high)) (λ k l. false_from_ne_true (is_g (get_or xs k 0)) (h.0.before k (omega arith) l)) (λ _. h.1)
-
--- the octet that is looked at says whether a zone is there
-pub place_found : (xs : List ℕ) (third octet : ℕ) → IsFirstByte (is_byte 71) xs (Some third) → octet ≡ get_or xs (third - 2) 0 → (b : Bool) → (octet == 66) ≡ b → cond b (third - 2) (length xs) ≡ zone_place xs
-place_found xs third octet h o b e =
-    let at : before_g xs ≡ third = first_found xs third h in
-    let same : begins_zone xs ≡ b =
-    and_left (nat_lt (before_g xs) (length xs)) (get_or xs (before_g xs - 2) 0 == 66) (within (before_g xs) (length xs) third at h.0.high) ∙ ap (λ n. get_or xs (n - 2) 0 == 66) at ∙ ap (λ x. x == 66) (sym o) ∙ e in
-    sym (placed xs b same ∙ ap (λ n. cond b (n - 2) (length xs)) at)
-  where
-    and_left : (a d : Bool) → a ≡ true → (a && d) ≡ d
-    and_left a d h = ap (λ x. x && d) h
-
-pub place_lacking : (xs : List ℕ) → IsFirstByte (is_byte 71) xs None → length xs ≡ zone_place xs
-place_lacking xs h =
-    let at : before_g xs ≡ length xs = position_or_len_is is_g xs (length xs) 0 (omega (arith)) (λ k l. false_from_ne_true (is_g (get_or xs k 0)) (h k (omega arith) l)) (λ l. absurd (omega (arith, l))) in
-    sym (placed xs false (ap (λ b. b && (get_or xs (before_g xs - 2) 0 == 66)) (not_within (before_g xs) (length xs) (length xs) at refl)))
+-- what a search for the line finds
+pub place_found : (xs : List ℕ) (r : Option ℕ) → FindsNeedle xs zone_line 0 r → unwrap_or r (length xs) ≡ zone_place xs
+place_found xs None h = sym (ap (λ ks. get_or ks 0 (length xs)) (matches-none xs zone_line 0 h))
+place_found xs (Some k) h = sym (ap (λ ks. get_or ks 0 (length xs)) (matches-first xs zone_line 0 k h.0 h.1))
 
 -- ---- as text
 

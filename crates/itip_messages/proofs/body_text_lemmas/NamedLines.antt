@@ -2,6 +2,8 @@
 -- Cited by write_body, write_named, write_text.
 use Rattle.std.proofs.Common.{◌≡◌, ◌∙◌, ℕ, ◌+◌, ◌-◌, ◌<◌, ◌≤◌, nat_lt, Bool, true, false, cond, List, [], ◌∷◌, ◌++◌, length, take, drop, get_or, codes, refl, sym, ap, subst, inl, inr, arith, Option, None, Some}
 use Rattle.std.specs.Prelude.{◌==◌, slice_get}
+use Rattle.std.specs.List.{All}
+use Rattle.std.proofs.lemmas.List.Elements.{All-head}
 use Rattle.std.specs.Option.{option_to_list}
 use Rattle.std.specs.Str.{bytes_eq, IsUtf8}
 use Rattle.std.specs.Str.Lines.{lines}
@@ -14,7 +16,10 @@ use Rattle.ical_lines.proofs.Utf8Lemmas.{utf8_apart}
 use Rattle.profile.specs.rooms.Kept.{IsNamed, renamed}
 use Rattle.profile.specs.text.Lines.{written}
 use Rattle.itip_messages.specs.BodyText.{WritesBody, WritesText, name_of, named_lines, content_in, zone_rest}
-use Rattle.itip_messages.specs.Body.{before_g, begins_zone, zone_place}
+use Rattle.memchr.specs.Find.{OccursAt, matches}
+use Rattle.memchr.proofs.lemmas.CallerLemmas.{All-matches}
+use Rattle.memchr.proofs.lemmas.MatchLemmas.{OccursAt-split}
+use Rattle.itip_messages.specs.Body.{zone_line, zone_place}
 use Rattle.itip_messages.specs.Zones.{with_zone, with_zones}
 use Rattle.itip_messages.proofs.shared_lemmas.WrittenLines.{no_lines}
 
@@ -45,23 +50,16 @@ same_lines (line ∷ lines) = λ i. sym (same_line (codes "DTSTART;TZID=Z") line
 
 -- ---- the text before the zone
 
-within : (p n : ℕ) → nat_lt p n ≡ true → p - 2 < n
-within p n h = grind (arith, nat_tests)
-
 -- what comes before the zone is text where the whole is
 front_utf8 : (body : List ℕ) → IsUtf8 body → IsUtf8 (take (zone_place body) body)
-front_utf8 body u = by (begins_zone body) refl
+front_utf8 body u = by (matches body zone_line 0) (All-matches body zone_line 0)
   where
-    by : (b : Bool) → begins_zone body ≡ b → IsUtf8 (take (cond b (before_g body - 2) (length body)) body)
-    by false e = subst IsUtf8 (sym (take_all (length body) body (omega arith))) u
-    by true e =
-        let both = and_parts (nat_lt (before_g body) (length body)) (get_or body (before_g body - 2) 0 == 66) e in
-        let place = before_g body - 2 in
-        let inside : place < length body = within (before_g body) (length body) both.0 in
-        let first : get_or body place 0 ≡ 66 = eqb-true (get_or body place 0) 66 both.1 in
-        let cut : body ≡ take place body ++ 66 ∷ drop (place + 1) body =
-        sym (take-append-drop place body) ∙ ap (λ l. take place body ++ l) (drop_more body place 0 inside ∙ ap (λ c. c ∷ drop (place + 1) body) first) in
-        (utf8_apart (take place body) (drop (place + 1) body) 66 (omega arith) (subst IsUtf8 cut u)).0
+    by : (places : List ℕ) → All (OccursAt body zone_line) places → IsUtf8 (take (get_or places 0 (length body)) body)
+    by [] all = subst IsUtf8 (sym (take_all (length body) body (omega arith))) u
+    by (place ∷ places) all =
+        let rest = drop 1 zone_line ++ drop (place + length zone_line) body in
+        let cut : body ≡ take place body ++ 66 ∷ rest = sym (take-append-drop place body) ∙ ap (λ l. take place body ++ l) (OccursAt-split body zone_line place (All-head (OccursAt body zone_line) place places all)) in
+        (utf8_apart (take place body) rest 66 (omega arith) (subst IsUtf8 cut u)).0
 
 pub is_nothing : (xs : List ℕ) → (length xs == 0) ≡ true → xs ≡ []
 is_nothing [] h = refl

@@ -10,9 +10,9 @@ use Rattle.std.proofs.lemmas.List.Kept.{AllPairs-filter}
 use Rattle.profile.specs.text.Lines.{is_content, is_too_long, logical_lines, reads_as_lines, written}
 use Rattle.profile.specs.text.Objects.{IsObject, is_property}
 use Rattle.profile.specs.text.Trees.{Tree}
-use Rattle.profile.specs.events.EventComponents.{EventComponent, Method, SaysEventComponent, meeting_said}
+use Rattle.profile.specs.events.EventComponents.{ATTENDEE, presence, is_of_one, EventComponent, Method, SaysEventComponent, meeting_said}
 use Rattle.profile.specs.events.Events.{InstancesDiffer, is_master, is_override}
-use Rattle.profile.specs.events.Messages.{NamesMethod, SpellsMessage, has_one_attendee, is_of_attendee}
+use Rattle.profile.specs.events.Messages.{NamesMethod, SpellsMessage, has_one_attendee}
 use Rattle.profile.specs.rooms.Messages.{object_lines, slot_of, slot_named}
 use Rattle.profile.specs.rooms.Revisions.{slot_cmp}
 use Rattle.itip_messages.specs.Law.{IsVevent}
@@ -115,7 +115,7 @@ overrides_differ events p =
 -- ---- the octets
 
 -- those of what an attendee says are taken as they are
-pub object_heard : LinesBack → ReadsLines → (word : List ℕ) (method : Method) → IsMethod (Some word) → NamesMethod (calendar_own (Some word)) method → is_of_attendee method ≡ true
+pub object_heard : LinesBack → ReadsLines → (word : List ℕ) (method : Method) → IsMethod (Some word) → NamesMethod (calendar_own (Some word)) method → is_of_one (presence ATTENDEE (Some method)) ≡ true
     → (organiser uid : List ℕ) (texts : List Lines) (events : List EventComponent) (octets : List ℕ) → AllZip (Heard method organiser uid) texts events → 0 < length events → length events ≤ 200 → AllPairs IsBefore events
     → octets ≡ written (object_lines (Some word) (flat_map (λ lines. lines) texts)) → is_too_long octets ≡ false
     → SpellsMessage octets (record { method = method; organiser = organiser; uid = uid; events = events })

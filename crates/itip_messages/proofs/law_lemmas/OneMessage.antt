@@ -12,12 +12,12 @@ use Rattle.ical_tree.proofs.OneLine.{at_one}
 use Rattle.profile.specs.text.Lines.{logical_lines, reads_as_lines, line_value, is_same_name}
 use Rattle.profile.specs.text.Objects.{IsObject}
 use Rattle.profile.specs.text.Trees.{Tree, tree_own, vevents}
-use Rattle.profile.specs.events.EventComponents.{Method, Store, Request, Add, Cancel, Reply, Refresh, NamesWord, EventComponent, SaysEventComponent, meeting_said}
+use Rattle.profile.specs.events.EventComponents.{ATTENDEE, presence, is_of_one, Method, Store, Request, Add, Cancel, Reply, Refresh, NamesWord, EventComponent, SaysEventComponent, meeting_said}
 use Rattle.profile.specs.events.Properties.{IsMissing}
 use Rattle.profile.specs.events.Events.{AreOfOne, EventFault, TimesDiffer, as_added, taken_by, is_master, is_override, in_event, two_masters, two_overrides, two_meetings, no_event}
 use Rattle.profile.specs.events.Placed.{SaysPlaced}
 use Rattle.itip_messages.proofs.shared_lemmas.PlacedUtc.{all_said}
-use Rattle.profile.specs.events.Messages.{NamesMethod, has_one_attendee, is_of_attendee, Message, SaysMessage, MethodFault, two_methods, bad_method, MessageFault, in_method, in_meeting, not_one, is_method, SpellsMessage}
+use Rattle.profile.specs.events.Messages.{NamesMethod, has_one_attendee, Message, SaysMessage, MethodFault, two_methods, bad_method, MessageFault, in_method, in_meeting, not_one, is_method, SpellsMessage}
 use Rattle.profile.specs.streams.Streams.{ObjectFault}
 use Rattle.cal_events.proofs.reading_lemmas.OneCalendar.{OneEvent, NoFault}
 use Rattle.cal_events.proofs.reading_lemmas.OneText.{OneTree, PairsUp}
@@ -186,7 +186,7 @@ no_message_fault one sound object a n s (in_meeting method named h) =
 no_message_fault one sound object a n s (not_one method named speaks events says h) =
     let same = same_method (tree_own object) method a.method named s.method in
     let spoken = subst (λ (m : Method). AllZip (SaysEventComponent object (Some m)) (vevents object) events) same says in
-    let speaks_here : is_of_attendee a.method ≡ true = subst (λ (m : Method). is_of_attendee m ≡ true) same speaks in
+    let speaks_here : is_of_one (presence ATTENDEE (Some a.method)) ≡ true = subst (λ (m : Method). is_of_one (presence ATTENDEE (Some m)) ≡ true) same speaks in
     let these = one_list one object (Some a.method) s.events events s.says spoken in
     true≢false (sym (s.one_each speaks_here) ∙ ap (list_all has_one_attendee) (s.taken ∙ as_they_are a.method speaks_here s.events ∙ these) ∙ h)
 

@@ -10,7 +10,7 @@ use Rattle.std.proofs.lemmas.Slice.Eq.{bytes_eq-Decides}
 use Rattle.profile.specs.text.Lines.{line_value, line_param, logical_lines}
 use Rattle.profile.specs.text.Trees.{Tree, vevents}
 use Rattle.profile.specs.text.Values.{IsAddress, IsUid, lower_case}
-use Rattle.profile.specs.events.EventComponents.{Method, Store, Request, Add, Cancel, Reply, Refresh, EventComponent, SaysEventComponent, SaysSequence, IsAttendee, adds_instances}
+use Rattle.profile.specs.events.EventComponents.{Method, Store, Request, Add, Cancel, Reply, Refresh, EventComponent, SaysEventComponent, SaysSequence, IsAttendee, bars_recurrence}
 use Rattle.profile.specs.events.Events.{as_added, taken_by, is_master}
 use Rattle.profile.specs.events.ZonedTimes.{SaysTimes, EventTimes, clock_of}
 use Rattle.profile.specs.events.Placed.{IsAt}
@@ -82,7 +82,7 @@ pub record SaysTaken (object : Tree) (method : Method) (lines : Lines) (event : 
   pub attendees : AllZip IsAttendee (lines_named (codes "ATTENDEE") lines) event.attendees
   -- the zone of its start is one that some VTIMEZONE says
   pub zone : IsSaid event.times.zone
-  pub facts : is_to_rooms method ≡ true → cancels method event ≡ false → EventFacts event (adds_instances (Some method))
+  pub facts : is_to_rooms method ≡ true → cancels method event ≡ false → EventFacts event (bars_recurrence (Some method))
   -- the instance that it is of in a room is in the dates that an event may name
   pub dated : (words : List ℕ) (zone : Option Zone) → IsRoomZone words zone → (t : ℤ) → BothOrNeither (IsAt zone) event.written.recurrence (Some t) → IsInEventDates t
   -- a local time means one instant on its clocks

@@ -1,37 +1,22 @@
 -- The instances of a component in a room: made once where they are the same in each, else there.
-use Rattle.std.proofs.Common.{◌≡◌, ◌∙◌, true, false, List, [], map, ap, sym, append-nil, ℤ, Some, None, subst, is_some, Option}
+use Rattle.std.proofs.Common.{◌≡◌, true, false, List, [], map, sym, Some, None, subst, Option}
 use Rattle.std.specs.Prelude.{MatchOption}
-use Rattle.std.proofs.lemmas.Bool.{and_parts}
 use Rattle.profile.specs.series.Zones.{Zone}
 use Rattle.profile.specs.events.EventComponents.{AreOfWritten, EventComponent as SaidComponent}
 use Rattle.profile.specs.events.Confirmed.{AreApart, has_series}
-use Rattle.profile.specs.events.Events.{Event as Whole, is_master}
 use Rattle.profile.specs.events.Placed.{is_all_fixed}
 use Rattle.cal_events.specs.Component.{component_of}
 use Rattle.cal_events.specs.InRoom.{AreInstancesIn, AreInstancesOf}
 use Rattle.cal_events.specs.OwnInstances.{IsTimely, own_instance_at}
-use Rattle.cal_events.specs.Ruled.{ruled_without}
-use Rattle.cal_events.specs.Series.{IsSeriesOf, IsSeriesWithout, series_said}
+use Rattle.cal_events.specs.Series.{IsSeriesOf, series_said}
 use Rattle.cal_events.specs.declared.component.EventComponent.{EventComponent}
 use Rattle.cal_events.specs.declared.instance.Single.{Single}
 use Rattle.cal_events.specs.declared.series.Series.{Series}
 use Rattle.cal_events.proofs.shared_lemmas.InRooms.{fixed_placed, instances_in_plain, instances_of_back}
-use Rattle.cal_events.proofs.shared_lemmas.OwnSingles.{of_master}
-use Rattle.cal_events.proofs.shared_lemmas.SeriesLemmas.{series_of}
 use Rattle.itip_messages.specs.MessageEvents.{HaveInstances, unattended}
 
--- a series without none of its instances is that of the same event
-ruled_again : (event : SaidComponent) → ruled_without (ruled_without event []) [] ≡ ruled_without event []
-ruled_again event = ap (λ (l : List ℤ). record (ruled_without event []) { exceptions = l }) (append-nil (ruled_without event []).exceptions)
-
-series_again : (event : SaidComponent) (series left : Whole) → IsSeriesOf event series → IsSeriesWithout series [] left → IsSeriesOf event left
-series_again event series left of w =
-    let flags = and_parts (is_master event) (is_some event.rule) of.has in
-    let made : left ≡ of_master (ruled_without (ruled_without event []) []) = w.master (ruled_without event []) (ap (λ (m : Whole). m.master) of.master) in
-    series_of event flags.0 flags.1 left (made ∙ ap of_master (ruled_again event))
-
-pub copied_series : (event : SaidComponent) (own : List Single) (series left : Series) → AreInstancesOf event own (Some series) → IsSeriesWithout (series_said series) [] (series_said left) → AreInstancesOf event own (Some left)
-copied_series event own series left h w = record { singles = h.singles; series = series_again event (series_said series) (series_said left) h.series w }
+pub copied_series : (event : SaidComponent) (own : List Single) (series left : Series) → AreInstancesOf event own (Some series) → series_said left ≡ series_said series → AreInstancesOf event own (Some left)
+copied_series event own series left h same = record { singles = h.singles; series = subst (IsSeriesOf event) (sym same) h.series }
 
 -- those of an event that is the same in each room
 pub instances_there : (zone : Option Zone) (event : SaidComponent) (own copy : List Single) (given left : Option Series) (by_room : Option EventComponent) → IsTimely event → HaveInstances event own given by_room → by_room ≡ None

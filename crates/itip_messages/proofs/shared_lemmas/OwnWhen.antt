@@ -10,7 +10,7 @@ use Rattle.profile.specs.text.Lines.{is_content, line_param, line_value}
 use Rattle.profile.specs.text.Objects.{is_property}
 use Rattle.profile.specs.text.Trees.{Tree}
 use Rattle.profile.specs.text.Values.{duration_text}
-use Rattle.profile.specs.events.EventComponents.{AreOfWritten, EventComponent, Method, Store, Request, Add, Cancel, Reply, Refresh, SaysEventComponent, adds_instances, may_lack_start, names_by_fixed}
+use Rattle.profile.specs.events.EventComponents.{AreOfWritten, EventComponent, Method, Store, Request, Add, Cancel, Reply, Refresh, SaysEventComponent, bars_recurrence, may_lack_start, names_by_fixed}
 use Rattle.profile.specs.events.Messages.{is_to_rooms}
 use Rattle.profile.specs.events.Occurrences.{ListedTime, Time, WrittenTimes, IsInside, SaysOccurrences, entries_of, IsRecurrenceLine, entries_named, most_entries}
 use Rattle.profile.specs.events.Properties.{Form, Fixed, Floating, WholeDay, Length, Says, BothOrNeither, is_of, lines_named, length_seconds, longest}
@@ -200,11 +200,11 @@ start_needed Refresh event to h = absurd (true≢false (sym to))
 
 -- one of a message to rooms, that isn't cancelled
 pub event_facts : (object : Tree) (method : Method) (lines : Lines) (event : EventComponent) → SaysEventComponent object (Some method) lines event → is_to_rooms method ≡ true → cancels method event ≡ false
-    → EventFacts event (adds_instances (Some method))
+    → EventFacts event (bars_recurrence (Some method))
 event_facts object method lines event s to h = go s.times
   where
-    go : SaysTimes (may_lack_start (Some method)) object lines event.times → EventFacts event (adds_instances (Some method))
-    go (inl t) = said_facts (adds_instances (Some method)) (names_by_fixed (Some method)) object lines event t s.rule s.occurrences s.instants
+    go : SaysTimes (may_lack_start (Some method)) object lines event.times → EventFacts event (bars_recurrence (Some method))
+    go (inl t) = said_facts (bars_recurrence (Some method)) (names_by_fixed (Some method)) object lines event t s.rule s.occurrences s.instants
     go (inr lacks) = absurd (true≢false (sym lacks.0 ∙ start_needed method event to h))
 
 -- and one of a store, where DTSTART is required

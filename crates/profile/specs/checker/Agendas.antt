@@ -59,7 +59,7 @@ pub record AreBlocks (Is : Instance → Type 0) (from until : ℤ) (blocks : Lis
   pub free : AreFreeSpans Is from until (free_in blocks)
   pub ordered : AllPairs (λ a b. block_start a ≤ℤ block_start b) blocks
 
--- on the clocks of a zone the day of this index begins with the one instant, and the next day with the other (RFC 5545 3.3.5)
+-- 00:00 of the day of this index means the one instant on the clocks of a zone, and 00:00 of the next day the other (RFC 5545 3.3.5)
 pub record IsLocalDay (zone : Zone) (day : ℕ) (start end : ℤ) : Type 0 where
   pub begins : Means zone (local_time day 0) start
   pub ends : Means zone (local_time (day + 1) 0) end

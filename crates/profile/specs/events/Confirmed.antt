@@ -1,6 +1,6 @@
 -- Which instances the VEVENTs of a calendar confirm in a room (RFC 5545 3.2.12, 3.8.1.11, 3.8.4.4), in series and singles.
 -- A meeting is one ORGANIZER and one UID; by RFC 5545 3.8.4.7 the UID alone is global, so this is this profile's choice.
-use Rattle.std.specs.Prelude.{◌≡◌, ◌≢◌, ◌⊎◌, ◌↔◌, ◌<ℤ◌, Contains, AllPairs, All, Bool, true, false, not, if◌then◌else◌, ◌&&◌, List, [], ◌∷◌, ◌++◌, filter, Option, Some, None, is_some, ℤ, ℕ}
+use Rattle.std.specs.Prelude.{◌≡◌, ◌≢◌, ◌⊎◌, ◌↔◌, ◌<ℤ◌, Contains, AllPairs, All, Bool, true, false, not, if◌then◌else◌, ◌&&◌, List, [], ◌∷◌, filter, Option, Some, None, is_some, ℤ, ℕ}
 use Rattle.std.specs.List.{AllZip, flat_map}
 use Rattle.profile.specs.checker.Instances.{Instance}
 use Rattle.profile.specs.series.Rules.{Rule}
@@ -18,7 +18,7 @@ alone event = if is_override event then record { master = None; overrides = even
 abbrev pub IsReplacedAmong : List EventComponent → EventComponent → ℤ → Type 0
 IsReplacedAmong events event = IsReplaced (λ other. Contains events other × (meeting_said other ≡ meeting_said event))
 
--- an instance of one of the events: of a master none that an override replaces. A cancelled master has none, and leaves its overrides as they are
+-- an instance of one of the events: of a master none that an override replaces
 pub record IsInstanceAmong (events : List EventComponent) (event : EventComponent) (instance : Instance) : Type 0 where
   pub is : IsInstance (alone event) instance
   pub shown : is_master event ≡ true → IsReplacedAmong events event instance.start → ⊥
@@ -29,7 +29,7 @@ pub record IsInstanceAmong (events : List EventComponent) (event : EventComponen
 abbrev pub is_kept : List ℕ → EventComponent → Bool
 is_kept room event = has_accepted room event && not event.cancelled
 
--- the instance is one of a kept event
+-- the instance is one of a kept event: a cancelled master has none, and leaves its overrides as they are
 pub record IsConfirmed (room : List ℕ) (events : List EventComponent) (instance : Instance) : Type 0 where
   pub event : EventComponent
   pub among : Contains events event
@@ -61,21 +61,44 @@ pub record AreSingles (room : List ℕ) (events : List EventComponent) (event : 
 abbrev pub is_series : List ℕ → EventComponent → Bool
 is_series room event = is_kept room event && is_master event && is_some event.rule
 
--- overrides of the event's meeting replace these instants, ascending
-pub record AreReplaced (events : List EventComponent) (event : EventComponent) (instants : List ℤ) : Type 0 where
-  pub each : All (IsReplacedAmong events event) instants
+-- these are all instants for which it holds, ascending, each once
+pub record AreAll (holds : ℤ → Type 0) (instants : List ℤ) : Type 0 where
+  pub each : All holds instants
   pub ascending : AllPairs ◌<ℤ◌ instants
-  pub all : (instant : ℤ) → IsReplacedAmong events event instant → Contains instants instant
+  pub all : (instant : ℤ) → holds instant → Contains instants instant
 
--- a master by its rule alone: without what RDATE adds, and without what overrides replace, as if EXDATE named it
+-- a master by its rule alone: whose it is, when it starts, how long it lasts and how it recurs, except at these instants. RDATE adds nothing to
+-- it, and what else the master says isn't part of it
 abbrev pub by_its_rule : EventComponent → List ℤ → EventComponent
-by_its_rule master replaced = record master { additions = []; exceptions = master.exceptions ++ replaced }
+by_its_rule master exceptions = record {
+  uid = master.uid;
+  organiser = master.organiser;
+  stamp = None;
+  sequence = 0;
+  cancelled = false;
+  recurrence = None;
+  times = master.times;
+  rule = master.rule;
+  additions = [];
+  exceptions = exceptions;
+  written = record { recurrence = None; additions = []; exceptions = [] };
+  summary = [];
+  attendees = [];
+}
 
--- the series of a master among the events: a meeting of that alone
-pub record IsSeries (events : List EventComponent) (master : EventComponent) (series : Event) : Type 0 where
-  pub replaced : List ℤ
-  pub are : AreReplaced events master replaced
-  pub is : series ≡ record { master = Some (by_its_rule master replaced); overrides = [] }
+-- a meeting of that alone, except at the instants for which this holds
+pub record IsByItsRule (master : EventComponent) (excepted : ℤ → Type 0) (series : Event) : Type 0 where
+  pub exceptions : List ℤ
+  pub are : AreAll excepted exceptions
+  pub is : series ≡ record { master = Some (by_its_rule master exceptions); overrides = [] }
+
+-- EXDATE names the instant, or an override of the event's meeting replaces it
+abbrev pub IsExcepted : List EventComponent → EventComponent → ℤ → Type 0
+IsExcepted events event instant = Contains event.exceptions instant ⊎ IsReplacedAmong events event instant
+
+-- the series of a master among the events
+abbrev pub IsSeries : List EventComponent → EventComponent → Event → Type 0
+IsSeries events master = IsByItsRule master (IsExcepted events master)
 
 -- ---- of one event by itself
 

@@ -1,12 +1,12 @@
 -- VEVENTs: what their lines say (RFC 5545 3.6.1). A VEVENT is its content lines here, beside the object that it is in: its times may
 -- name a VTIMEZONE of that. What is required depends on the METHOD of the object, where it is a message.
-use Rattle.std.specs.Prelude.{◌≡◌, ℕ, Contains, Bool, true, false, if◌then◌else◌, List, [], ◌∷◌, map, codes, Option, None, Some, is_some, option_map, unwrap_or, ℤ}
+use Rattle.std.specs.Prelude.{◌≡◌, ◌||◌, ℕ, Bool, true, false, not, if◌then◌else◌, List, [], ◌∷◌, map, codes, Option, None, Some, option_map, unwrap_or, ℤ}
 use Rattle.std.specs.List.{find, AllZip}
 use Rattle.std.specs.Str.{bytes_eq}
 use Rattle.profile.specs.text.Lines.{line_value, line_param, is_same_name}
 use Rattle.profile.specs.text.Trees.{Tree}
 use Rattle.profile.specs.text.Values.{IsUid, unescaped}
-use Rattle.profile.specs.events.Properties.{lines_named, IsStampLine, IsSequenceLine, IsAddressLine, Says, IsUidLine, OccursMoreThanOnce, IsMissing, SomeLine, IsNoStamp, IsNoAddress, IsNoSequence}
+use Rattle.profile.specs.events.Properties.{is_of, lines_named, IsStampLine, IsSequenceLine, IsAddressLine, Says, IsUidLine, OccursMoreThanOnce, IsMissing, SomeLine, IsNoStamp, IsNoAddress, IsNoSequence}
 use Rattle.profile.specs.series.Rules.{Rule}
 use Rattle.profile.specs.events.ZonedTimes.{EventTimes, SaysTimes, EventTimesFault}
 use Rattle.profile.specs.events.EventRules.{SaysEventRule, EventRuleFault}
@@ -24,27 +24,118 @@ pub data Method : Type 0 where
   Reply : Method
   Refresh : Method
 
--- METHOD is ADD: each event is an instance of a meeting. None is an object whose METHOD is ignored
-abbrev pub adds_instances : Option Method → Bool
-adds_instances None = false
-adds_instances (Some Store) = false
-adds_instances (Some Request) = false
-adds_instances (Some Add) = true
-adds_instances (Some Cancel) = false
-adds_instances (Some Reply) = false
-adds_instances (Some Refresh) = false
+-- ---- what METHOD requires of the properties
 
--- who cancels, answers or asks for a meeting need not say when it is (RFC 5546 3.2.3, 3.2.5, 3.2.6)
+-- the properties of a VEVENT that are read, as RFC 5545 3.8 names them
+pub data Property : Type 0 where
+  UID : Property
+  ORGANIZER : Property
+  DTSTAMP : Property
+  SEQUENCE : Property
+  STATUS : Property
+  RECURRENCE-ID : Property
+  DTSTART : Property
+  DTEND : Property
+  DURATION : Property
+  RRULE : Property
+  RDATE : Property
+  EXDATE : Property
+  ATTENDEE : Property
+  SUMMARY : Property
+
+abbrev pub property_name : Property → List ℕ
+property_name UID = codes "UID"
+property_name ORGANIZER = codes "ORGANIZER"
+property_name DTSTAMP = codes "DTSTAMP"
+property_name SEQUENCE = codes "SEQUENCE"
+property_name STATUS = codes "STATUS"
+property_name RECURRENCE-ID = codes "RECURRENCE-ID"
+property_name DTSTART = codes "DTSTART"
+property_name DTEND = codes "DTEND"
+property_name DURATION = codes "DURATION"
+property_name RRULE = codes "RRULE"
+property_name RDATE = codes "RDATE"
+property_name EXDATE = codes "EXDATE"
+property_name ATTENDEE = codes "ATTENDEE"
+property_name SUMMARY = codes "SUMMARY"
+
+-- all of them
+abbrev pub properties : List Property
+properties =
+    UID ∷ ORGANIZER ∷ DTSTAMP ∷ SEQUENCE ∷ STATUS ∷ RECURRENCE-ID ∷ DTSTART ∷ DTEND ∷ DURATION ∷ RRULE ∷ RDATE ∷ EXDATE ∷ ATTENDEE ∷ SUMMARY ∷ []
+
+-- the line is of this property
+abbrev pub is_named_by : List ℕ → Property → Bool
+is_named_by line property = is_of (property_name property) line
+
+-- how often a property occurs in a VEVENT: exactly once; at most once; in any number; never; or once or more, each time with the same address
+pub data Presence : Type 0 where
+  Once : Presence
+  AtMostOnce : Presence
+  AnyNumber : Presence
+  Never : Presence
+  OfOne : Presence
+
+-- a VEVENT of an object of this METHOD (RFC 5546 3.2.2 to 3.2.6), of a store (RFC 4791 4.1), or, by None, of one whose METHOD is ignored, as of a
+-- calendar (RFC 5545 3.6.1). Who cancels, answers or asks for a meeting need not say when it is; what is added is an instance, which doesn't recur;
+-- an attendee speaks of itself alone. This profile's choice: that a calendar may lack DTSTAMP, a REQUEST ATTENDEE, an ADD and a CANCEL SEQUENCE, and
+-- a REQUEST and an ADD SUMMARY; that SUMMARY may occur again, and ATTENDEE with one address in a REPLY; and that what a method has no use for, as
+-- DTSTART in a REFRESH, may be there. That a store names its ORGANIZER is RFC 6638 3.1
+abbrev pub presence : Property → Option Method → Presence
+presence UID method = Once
+presence ORGANIZER None = AtMostOnce
+presence ORGANIZER (Some method) = Once
+presence DTSTAMP None = AtMostOnce
+presence DTSTAMP (Some method) = Once
+presence SEQUENCE method = AtMostOnce
+presence STATUS method = AtMostOnce
+presence RECURRENCE-ID method = AtMostOnce
+presence DTSTART (Some Cancel) = AtMostOnce
+presence DTSTART (Some Reply) = AtMostOnce
+presence DTSTART (Some Refresh) = AtMostOnce
+presence DTSTART _ = Once
+presence DTEND method = AtMostOnce
+presence DURATION method = AtMostOnce
+presence RRULE (Some Add) = Never
+presence RRULE _ = AtMostOnce
+presence RDATE (Some Add) = Never
+presence RDATE _ = AnyNumber
+presence EXDATE method = AnyNumber
+presence ATTENDEE (Some Reply) = OfOne
+presence ATTENDEE (Some Refresh) = OfOne
+presence ATTENDEE _ = AnyNumber
+presence SUMMARY method = AnyNumber
+
+abbrev pub is_once : Presence → Bool
+is_once Once = true
+is_once _ = false
+
+abbrev pub is_single : Presence → Bool
+is_single Once = true
+is_single AtMostOnce = true
+is_single _ = false
+
+abbrev pub is_never : Presence → Bool
+is_never Never = true
+is_never _ = false
+
+abbrev pub is_of_one : Presence → Bool
+is_of_one OfOne = true
+is_of_one _ = false
+
+-- the property occurs at most once, whatever METHOD is (RFC 5545 3.6.1)
+abbrev pub occurs_once : Property → Bool
+occurs_once property = is_single (presence property None)
+
+-- DTSTART may be missing
 abbrev pub may_lack_start : Option Method → Bool
-may_lack_start None = false
-may_lack_start (Some Store) = false
-may_lack_start (Some Request) = false
-may_lack_start (Some Add) = false
-may_lack_start (Some Cancel) = true
-may_lack_start (Some Reply) = true
-may_lack_start (Some Refresh) = true
+may_lack_start method = not (is_once (presence DTSTART method))
 
--- what is stored, and what is answered, names an instance by a fixed time
+-- RRULE and RDATE may not occur: each VEVENT is a single instance
+abbrev pub bars_recurrence : Option Method → Bool
+bars_recurrence method = is_never (presence RRULE method) || is_never (presence RDATE method)
+
+-- RECURRENCE-ID names an instance by a fixed time: in what is stored, and in what is answered
 abbrev pub names_by_fixed : Option Method → Bool
 names_by_fixed None = false
 names_by_fixed (Some Store) = true
@@ -53,6 +144,8 @@ names_by_fixed (Some Add) = false
 names_by_fixed (Some Cancel) = false
 names_by_fixed (Some Reply) = true
 names_by_fixed (Some Refresh) = false
+
+-- ---- METHOD among the lines of a VCALENDAR
 
 -- METHOD occurs exactly once among the lines of a VCALENDAR, and names this word, caseless (RFC 5545 3.7.2)
 pub record NamesWord (own : List (List ℕ)) (word : List ℕ) : Type 0 where
@@ -138,21 +231,23 @@ pub record AreOfWritten (written : WrittenTimes) (recurrence : Option ℤ) (addi
   pub added : additions ≡ instants_of written.additions
   pub taken : exceptions ≡ instants_of written.exceptions
 
--- the lines of a VEVENT of an object of this METHOD, or of none, say this event. UID is required, in a message ORGANIZER and DTSTAMP too,
--- and DTSTART except in a CANCEL (RFC 5545 3.6.1, RFC 5546 3.2). That a calendar's VEVENT may lack DTSTAMP and that a REQUEST may lack ATTENDEE
--- is this profile's choice
+-- the property is there as METHOD asks, with this value
+abbrev pub SaysAs : {V : Type 0} → Option Method → Property → (List ℕ → V → Type 0) → List (List ℕ) → Option V → Type 0
+SaysAs method property IsValue lines value = Says (property_name property) (is_once (presence property method)) IsValue lines value
+
+-- the lines of a VEVENT of an object of this METHOD, or of one whose METHOD is ignored, say this event
 pub record SaysEventComponent (object : Tree) (method : Option Method) (lines : List (List ℕ)) (event : EventComponent) : Type 0 where
-  pub uid : Says (codes "UID") true IsUidLine lines (Some event.uid)
-  pub organiser : Says (codes "ORGANIZER") (is_some method) IsAddressLine lines event.organiser
-  pub stamp : Says (codes "DTSTAMP") (is_some method) IsStampLine lines event.stamp
+  pub uid : SaysAs method UID IsUidLine lines (Some event.uid)
+  pub organiser : SaysAs method ORGANIZER IsAddressLine lines event.organiser
+  pub stamp : SaysAs method DTSTAMP IsStampLine lines event.stamp
   pub sequence : SaysSequence lines event.sequence
   pub status : SaysStatus lines event.cancelled
   pub times : SaysTimes (may_lack_start method) object lines event.times
   pub rule : SaysEventRule lines event.times event.rule
-  pub occurrences : SaysOccurrences (adds_instances method) (names_by_fixed method) object lines event.written
+  pub occurrences : SaysOccurrences (bars_recurrence method) (names_by_fixed method) object lines event.written
   pub instants : AreOfWritten event.written event.recurrence event.additions event.exceptions
   pub summary : event.summary ≡ summary_of lines
-  pub attendees : AllZip IsAttendee (lines_named (codes "ATTENDEE") lines) event.attendees
+  pub attendees : AllZip IsAttendee (lines_named (property_name ATTENDEE) lines) event.attendees
 
 -- ---- what an event says of its meeting and of a room
 
@@ -177,21 +272,25 @@ meeting_said event = (unwrap_or event.organiser [], event.uid)
 
 -- ---- what can be wrong with a VEVENT, by the number of its refusal
 
--- the properties that occur at most once, beside those of the times, the rule and the occurrences
-abbrev pub single_names : List (List ℕ)
-single_names = codes "UID" ∷ codes "ORGANIZER" ∷ codes "DTSTAMP" ∷ codes "SEQUENCE" ∷ codes "STATUS" ∷ []
+-- the number of a property that is missing
+abbrev pub missing_number : Property → ℕ
+missing_number ORGANIZER = 63
+missing_number _ = 61
 
--- the lines of a VEVENT of an object of this METHOD, or of none, have the fault of this number
+-- a property occurs more often than it may, or is missing where METHOD asks for it
+pub data PresenceFault (method : Option Method) (lines : List (List ℕ)) : ℕ → Type 0 where
+  twice : (property : Property) → occurs_once property ≡ true → OccursMoreThanOnce (property_name property) lines → PresenceFault method lines 61
+  missing : (property : Property) → is_once (presence property method) ≡ true → IsMissing (property_name property) lines
+      → PresenceFault method lines (missing_number property)
+
+-- the lines of a VEVENT of an object of this METHOD, or of one whose METHOD is ignored, have the fault of this number
 pub data EventComponentFault (object : Tree) (method : Option Method) (lines : List (List ℕ)) : ℕ → Type 0 where
-  in_times : {n : ℕ} → EventTimesFault (may_lack_start method) object lines n → EventComponentFault object method lines n
+  in_presence : {n : ℕ} → PresenceFault method lines n → EventComponentFault object method lines n
+  in_times : {n : ℕ} → EventTimesFault object lines n → EventComponentFault object method lines n
   in_rule : {n : ℕ} → EventRuleFault object lines n → EventComponentFault object method lines n
-  in_occurrences : {n : ℕ} → OccurrenceFault (adds_instances method) (names_by_fixed method) object lines n → EventComponentFault object method lines n
+  in_occurrences : {n : ℕ} → OccurrenceFault (bars_recurrence method) (names_by_fixed method) object lines n → EventComponentFault object method lines n
   bad_stamp : SomeLine (codes "DTSTAMP") (λ line. IsNoStamp (line_value line)) lines → EventComponentFault object method lines 10
   bad_uid : SomeLine (codes "UID") (λ line. IsUid (unescaped (line_value line)) → ⊥) lines → EventComponentFault object method lines 14
   bad_organiser : SomeLine (codes "ORGANIZER") IsNoAddress lines → EventComponentFault object method lines 15
   bad_attendee : SomeLine (codes "ATTENDEE") IsNoAddress lines → EventComponentFault object method lines 15
   bad_sequence : SomeLine (codes "SEQUENCE") IsNoSequence lines → EventComponentFault object method lines 16
-  no_uid : IsMissing (codes "UID") lines → EventComponentFault object method lines 61
-  no_stamp_given : is_some method ≡ true → IsMissing (codes "DTSTAMP") lines → EventComponentFault object method lines 61
-  twice : (name : List ℕ) → Contains single_names name → OccursMoreThanOnce name lines → EventComponentFault object method lines 61
-  no_organiser : is_some method ≡ true → IsMissing (codes "ORGANIZER") lines → EventComponentFault object method lines 63

@@ -10,7 +10,7 @@ use Rattle.profile.specs.text.Trees.{Tree}
 use Rattle.profile.specs.series.Rules.{Rule, RuleText, Until, UntilDay, UntilLocal, UntilInstant, rule_of, is_rule_day, last_rule_day}
 use Rattle.profile.specs.series.RuleTexts.{SpellsRule, IsLeastRuleFault}
 use Rattle.profile.specs.series.Zones.{Zone, Means, NoneFrom, IsLastDay, local_time}
-use Rattle.profile.specs.events.Properties.{Form, first_second, lines_named, BothOrNeither, Says, OccursMoreThanOnce, SomeLine}
+use Rattle.profile.specs.events.Properties.{Form, first_second, lines_named, BothOrNeither, Says, SomeLine}
 use Rattle.profile.specs.events.ZonedTimes.{SaysZonedTime, clock_of, EventTimes}
 
 -- ---- the last day that UNTIL allows
@@ -94,4 +94,3 @@ pub data EventRuleFault (object : Tree) (lines : List (List ℕ)) : ℕ → Type
   bad_rule : {n : ℕ} → SomeLine (codes "RRULE") (λ line. IsLeastRuleFault (line_value line) n) lines → EventRuleFault object lines n
   starts_outside : SomeLine (codes "DTSTART") (λ start. SomeLine (codes "RRULE") (StartsOutside object start) lines) lines
       → EventRuleFault object lines 34
-  two_rules : OccursMoreThanOnce (codes "RRULE") lines → EventRuleFault object lines 61

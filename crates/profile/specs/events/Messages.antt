@@ -1,12 +1,12 @@
 -- Messages between an organiser and the attendees of its meetings (RFC 5546 1.4, 3.2), and what an organiser stores (RFC 6638 3.2.1): what an object
 -- says by its METHOD. Which properties are required depends on that; that a store is an object without METHOD is RFC 4791 4.1.
-use Rattle.std.specs.Prelude.{◌≡◌, ℕ, ◌<◌, ◌≤◌, ◌||◌, Contains, Bool, true, false, not, List, [], ◌∷◌, length, filter, codes, Option, None, Some}
+use Rattle.std.specs.Prelude.{◌≡◌, ℕ, ◌<◌, ◌≤◌, Contains, Bool, true, false, not, List, [], ◌∷◌, length, filter, codes, Option, None, Some, is_some, option_map, unwrap_or}
 use Rattle.std.specs.List.{list_all, find, AllZip}
 use Rattle.std.specs.Str.{bytes_eq}
 use Rattle.profile.specs.text.Lines.{line_value, is_same_name, logical_lines, reads_as_lines}
 use Rattle.profile.specs.text.Objects.{IsObject}
 use Rattle.profile.specs.text.Trees.{Tree, tree_own, vevents}
-use Rattle.profile.specs.events.EventComponents.{Method, Store, Request, Add, Cancel, Reply, Refresh, NamesWord, Attendee, EventComponent, SaysEventComponent, meeting_said}
+use Rattle.profile.specs.events.EventComponents.{Method, Store, Request, Add, Cancel, Reply, Refresh, ATTENDEE, presence, is_of_one, NamesWord, Attendee, EventComponent, SaysEventComponent, meeting_said}
 use Rattle.profile.specs.events.Properties.{IsMissing, SomeLine, OccursMoreThanOnce}
 use Rattle.profile.specs.events.Events.{is_master, is_override, taken_by, TimesDiffer, EventFault}
 
@@ -20,6 +20,22 @@ method_word Add = Some (codes "ADD")
 method_word Cancel = Some (codes "CANCEL")
 method_word Reply = Some (codes "REPLY")
 method_word Refresh = Some (codes "REFRESH")
+
+-- the METHODs that a word names
+abbrev pub named_methods : List Method
+named_methods = Request ∷ Add ∷ Cancel ∷ Reply ∷ Refresh ∷ []
+
+-- the word is the method's, caseless
+abbrev pub is_word_of : List ℕ → Method → Bool
+is_word_of word method = unwrap_or (option_map (is_same_name word) (method_word method)) false
+
+-- the method that a word names, None where it names none that is taken here (RFC 5546 1.4); that PUBLISH, COUNTER and DECLINECOUNTER aren't is
+-- this profile's choice
+abbrev pub method_named : List ℕ → Option Method
+method_named word = find (is_word_of word) named_methods
+
+abbrev pub is_method : List ℕ → Bool
+is_method word = is_some (method_named word)
 
 -- METHOD among the lines of a VCALENDAR is this word, or is missing
 abbrev pub NamesMethodBy : Option (List ℕ) → List (List ℕ) → Type 0
@@ -83,14 +99,14 @@ pub record AreOfMeeting (organiser uid : List ℕ) (events : List EventComponent
 abbrev pub master_in : List EventComponent → Option EventComponent
 master_in events = find is_master events
 
--- a VCALENDAR says this message; where an attendee speaks each VEVENT has one attendee
+-- a VCALENDAR says this message; where METHOD asks for one attendee, each VEVENT has one
 pub record SaysMessage (object : Tree) (message : Message) : Type 0 where
   pub method : NamesMethod (tree_own object) message.method
   pub events : List EventComponent
   pub says : AllZip (SaysEventComponent object (Some message.method)) (vevents object) events
   pub taken : message.events ≡ taken_by (Some message.method) events
   pub are : AreOfMeeting message.organiser message.uid message.events
-  pub one_each : is_of_attendee message.method ≡ true → list_all has_one_attendee message.events ≡ true
+  pub one_each : is_of_one (presence ATTENDEE (Some message.method)) ≡ true → list_all has_one_attendee message.events ≡ true
 
 -- the octets are one VCALENDAR, within the limits of a message, and say this message
 pub record SpellsMessage (octets : List ℕ) (message : Message) : Type 0 where
@@ -100,12 +116,6 @@ pub record SpellsMessage (octets : List ℕ) (message : Message) : Type 0 where
   pub says : SaysMessage tree message
 
 -- ---- what can be wrong with a message, by the number of its refusal
-
--- the words of METHOD that are taken here (RFC 5546 1.4); that PUBLISH, COUNTER and DECLINECOUNTER aren't is this profile's choice
-abbrev pub is_method : List ℕ → Bool
-is_method word =
-    is_same_name word (codes "REQUEST") || is_same_name word (codes "ADD") || is_same_name word (codes "CANCEL")
-    || is_same_name word (codes "REPLY") || is_same_name word (codes "REFRESH")
 
 -- the VCALENDAR's lines have the fault of this number
 pub data MethodFault (own : List (List ℕ)) : ℕ → Type 0 where
@@ -117,8 +127,8 @@ pub data MessageFault (object : Tree) : ℕ → Type 0 where
   in_method : {n : ℕ} → MethodFault (tree_own object) n → MessageFault object n
   -- in one VEVENT, or between them
   in_meeting : {n : ℕ} → (method : Method) → NamesMethod (tree_own object) method → EventFault None object (Some method) n → MessageFault object n
-  -- an attendee speaks, and a VEVENT doesn't have one attendee
-  not_one : (method : Method) → NamesMethod (tree_own object) method → is_of_attendee method ≡ true → (events : List EventComponent)
+  -- METHOD asks for one attendee, and a VEVENT doesn't have one
+  not_one : (method : Method) → NamesMethod (tree_own object) method → is_of_one (presence ATTENDEE (Some method)) ≡ true → (events : List EventComponent)
       → AllZip (SaysEventComponent object (Some method)) (vevents object) events → list_all has_one_attendee events ≡ false → MessageFault object 64
 
 -- the octets are one VCALENDAR, within the limits of a message, and it has the fault of this number

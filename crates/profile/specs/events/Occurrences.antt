@@ -7,7 +7,7 @@ use Rattle.std.specs.Str.{bytes_eq}
 use Rattle.profile.specs.text.Lines.{line_value, line_param, is_same_name}
 use Rattle.profile.specs.text.Trees.{Tree}
 use Rattle.profile.specs.series.Zones.{Zone, Means}
-use Rattle.profile.specs.events.Properties.{Form, Fixed, is_of, lines_named, OccursAtMostOnce, OccursMoreThanOnce, SomeLine, Says}
+use Rattle.profile.specs.events.Properties.{Form, Fixed, is_of, lines_named, OccursAtMostOnce, SomeLine, Says}
 use Rattle.profile.specs.events.ZonedTimes.{is_in_zone, clock_of, IsInDates, SaysZonedText, SaysInDates, SaysOutOfDates, SaysForm, ZonedTextFault, ZonedTimeFault}
 
 -- ---- STATUS
@@ -20,7 +20,7 @@ SaysStatus lines cancelled =
 
 -- ---- RECURRENCE-ID
 
--- RANGE is on the line; it is ignored
+-- RANGE is on the line, whatever it says
 abbrev pub has_range : List ℕ → Bool
 has_range line = is_some (line_param (codes "RANGE") line)
 
@@ -126,6 +126,5 @@ pub data OccurrenceFault (added fixed : Bool) (object : Tree) (lines : List (Lis
   -- where only a fixed time can name an instance, it is named by another one
   unfixed : fixed ≡ true → SomeLine (codes "RECURRENCE-ID") (λ line. (form : Form) × (form ≢ Fixed) × SaysForm object line form) lines
       → OccurrenceFault added fixed object lines 57
-  two_recurrences : OccursMoreThanOnce (codes "RECURRENCE-ID") lines → OccurrenceFault added fixed object lines 61
   ranged : SomeLine (codes "RECURRENCE-ID") (λ line. has_range line ≡ true) lines → OccurrenceFault added fixed object lines 65
   recurs : recurs_as_instance added lines ≡ true → OccurrenceFault added fixed object lines 67

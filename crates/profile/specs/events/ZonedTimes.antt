@@ -1,6 +1,6 @@
 -- Times: what a start or an end says, in UTC, where TZID names a VTIMEZONE of its object (RFC 5545 3.2.19, 3.3.5, 3.6.5), without zone,
 -- or as a date (3.3.4), and what DTSTART, DTEND and DURATION of a VEVENT say together. A line is its octets here; its object, the VCALENDAR that it is in, is a tree.
-use Rattle.std.specs.Prelude.{◌≡◌, ◌≢◌, ℕ, ◌<◌, ◌≤◌, ◌⊎◌, Bool, true, false, if◌then◌else◌, List, [], ◌∷◌, filter, Contains, codes, Option, Some, None, is_some, option_map, unwrap_or, ℤ, pos, ◌+ℤ◌, ◌*ℤ◌, ◌≤ℤ◌, ◌<ℤ◌}
+use Rattle.std.specs.Prelude.{◌≡◌, ◌≢◌, ℕ, ◌<◌, ◌≤◌, ◌⊎◌, Bool, true, false, if◌then◌else◌, List, filter, codes, Option, Some, None, is_some, option_map, unwrap_or, ℤ, pos, ◌+ℤ◌, ◌*ℤ◌, ◌≤ℤ◌, ◌<ℤ◌}
 use Rattle.std.specs.List.{find}
 use Rattle.std.specs.Str.{bytes_eq}
 use Rattle.profile.specs.text.Lines.{line_value, line_param, is_same_name}
@@ -9,7 +9,7 @@ use Rattle.profile.specs.text.Values.{SpellsDate, SpellsStamp, SpellsLocal, unes
 use Rattle.profile.specs.checker.Instances.{horizon}
 use Rattle.profile.specs.series.Zones.{Zone, Constant, Means}
 use Rattle.profile.specs.series.ZoneTexts.{SaysZone, ZoneFault}
-use Rattle.profile.specs.events.Properties.{is_of, TimeKind, Unsaid, DateTime, Date, Period, Other, time_kind, Form, Fixed, Floating, WholeDay, allows_form, OccursAtMostOnce, OccursMoreThanOnce, IsMissing, SomeLine, IsLocalText, KindFault, Length, length_seconds, LastsFor, IsNoDuration, IsNegativeOrLong, longest, first_second}
+use Rattle.profile.specs.events.Properties.{is_of, TimeKind, Unsaid, DateTime, Date, Period, Other, time_kind, Form, Fixed, Floating, WholeDay, allows_form, OccursAtMostOnce, IsMissing, SomeLine, IsLocalText, KindFault, Length, length_seconds, LastsFor, IsNoDuration, IsNegativeOrLong, longest, first_second}
 
 -- ---- VTIMEZONEs by their names
 
@@ -71,8 +71,8 @@ SaysZonedTime object line form zone local = SaysZonedText object line (line_valu
 abbrev pub SaysForm : Tree → List ℕ → Form → Type 0
 SaysForm object line form = (zone : Option Zone) × (local : ℤ) × SaysZonedTime object line form zone local
 
--- the clocks that show it: those of its zone, else those of UTC, which show the instant itself. Where a time isn't fixed, they are those of
--- the room that asks; the rooms here go by UTC
+-- the clocks that show it: those of its zone, else those of UTC, which show the instant itself. A time that isn't fixed is read so in a room that
+-- goes by UTC; Placed.antt says it for the clocks of any room
 abbrev pub clock_of : Option Zone → Zone
 clock_of zone = unwrap_or zone (Constant (pos 0))
 
@@ -255,26 +255,21 @@ LastsPartOfDay object lines =
     (length : Length) × SomeLine (codes "DTSTART") (λ line. SaysForm object line WholeDay) lines
     × SomeLine (codes "DURATION") (λ line. LastsFor line length) lines × (0 < length.seconds)
 
-abbrev pub names_of_times : List (List ℕ)
-names_of_times = codes "DTSTART" ∷ codes "DTEND" ∷ codes "DURATION" ∷ []
-
--- the times of a VEVENT, whose start may be missing or not, have the fault of this number
-pub data EventTimesFault (may_lack : Bool) (object : Tree) (lines : List (List ℕ)) : ℕ → Type 0 where
-  bad_start : {n : ℕ} → SomeLine (codes "DTSTART") (λ line. ZonedTimeFault object line n) lines → EventTimesFault may_lack object lines n
-  bad_end : {n : ℕ} → SomeLine (codes "DTEND") (λ line. ZonedTimeFault object line n) lines → EventTimesFault may_lack object lines n
-  bad_duration : SomeLine (codes "DURATION") IsNoDuration lines → EventTimesFault may_lack object lines 12
+-- the times of a VEVENT have the fault of this number
+pub data EventTimesFault (object : Tree) (lines : List (List ℕ)) : ℕ → Type 0 where
+  bad_start : {n : ℕ} → SomeLine (codes "DTSTART") (λ line. ZonedTimeFault object line n) lines → EventTimesFault object lines n
+  bad_end : {n : ℕ} → SomeLine (codes "DTEND") (λ line. ZonedTimeFault object line n) lines → EventTimesFault object lines n
+  bad_duration : SomeLine (codes "DURATION") IsNoDuration lines → EventTimesFault object lines 12
   -- it ends before it starts
-  ends_early : StartAndEndLie object (λ start end. end <ℤ start) lines → EventTimesFault may_lack object lines 50
+  ends_early : StartAndEndLie object (λ start end. end <ℤ start) lines → EventTimesFault object lines 50
   -- it lasts longer than 366 days
-  ends_late : StartAndEndLie object (λ start end. (start +ℤ pos longest) <ℤ end) lines → EventTimesFault may_lack object lines 51
-  lasts_long : SomeLine (codes "DURATION") IsNegativeOrLong lines → EventTimesFault may_lack object lines 51
+  ends_late : StartAndEndLie object (λ start end. (start +ℤ pos longest) <ℤ end) lines → EventTimesFault object lines 51
+  lasts_long : SomeLine (codes "DURATION") IsNegativeOrLong lines → EventTimesFault object lines 51
   -- it starts or ends outside of the dates that an event may name
-  starts_out : SomeLine (codes "DTSTART") (SaysOutOfDates false object) lines → EventTimesFault may_lack object lines 52
-  ends_out : SomeLine (codes "DTEND") (SaysOutOfDates true object) lines → EventTimesFault may_lack object lines 52
+  starts_out : SomeLine (codes "DTSTART") (SaysOutOfDates false object) lines → EventTimesFault object lines 52
+  ends_out : SomeLine (codes "DTEND") (SaysOutOfDates true object) lines → EventTimesFault object lines 52
   -- DTEND or DURATION doesn't go with the form of DTSTART
-  other_form : FormsDiffer object lines → EventTimesFault may_lack object lines 57
-  part_of_day : LastsPartOfDay object lines → EventTimesFault may_lack object lines 57
-  no_start : may_lack ≡ false → IsMissing (codes "DTSTART") lines → EventTimesFault may_lack object lines 61
-  twice : (name : List ℕ) → Contains names_of_times name → OccursMoreThanOnce name lines → EventTimesFault may_lack object lines 61
+  other_form : FormsDiffer object lines → EventTimesFault object lines 57
+  part_of_day : LastsPartOfDay object lines → EventTimesFault object lines 57
   end_and_duration : SomeLine (codes "DTEND") (λ _. Unit {0}) lines → SomeLine (codes "DURATION") (λ _. Unit {0}) lines
-      → EventTimesFault may_lack object lines 61
+      → EventTimesFault object lines 61

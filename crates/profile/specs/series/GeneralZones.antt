@@ -1,5 +1,5 @@
--- Zones in general: a VTIMEZONE with any number of observances, which begin by DTSTART, by RDATE and by yearly rules that may end
--- (RFC 5545 3.6.5). The offset in force and what a local time means are those of Zones.antt, which are said there of any onsets.
+-- Zones in general: a VTIMEZONE with any number of observances, which begin by DTSTART, by RDATE, by yearly rules that may end and on the listed
+-- days of rules of any form that UNTIL ends (RFC 5545 3.6.5). The offset in force and what a local time means are those of Zones.antt, which are said there of any onsets.
 use Rattle.std.specs.Prelude.{ℕ, ◌+◌, ◌-◌, ◌≤◌, Contains, List, [], ◌∷◌, ℤ, pos, ◌+ℤ◌, ◌≤ℤ◌}
 use Rattle.profile.specs.series.Rules.{count_days}
 use Rattle.profile.specs.series.Zones.{Observance, Zone, Constant, Single, Pair, Onset, IsOnset, begins_on, InForce, IsOffsetAt, Means, MeansBy}
@@ -13,7 +13,7 @@ pub data End : Type 0 where
   AtInstant : ℤ → End
 
 -- a run of onsets: those of an observance, up to an end. A zone in general is a list of runs: STANDARD or DAYLIGHT is the run of its
--- DTSTART or of its RRULE, and one more for each local time of its RDATEs
+-- DTSTART or of its RRULE, or one for each day of a rule of another form, and one more for each local time of its RDATEs
 pub record Run : Type 0 where
   pub observance : Observance
   pub end : End

@@ -8,7 +8,7 @@ use Rattle.profile.specs.text.Lines.{is_content}
 use Rattle.profile.specs.text.Trees.{Tree, vevents}
 use Rattle.profile.specs.text.Objects.{is_property}
 use Rattle.profile.specs.text.Values.{WritesStamp, escaped}
-use Rattle.profile.specs.events.EventComponents.{Method, EventComponent, SaysEventComponent, has_accepted, meeting_said, adds_instances}
+use Rattle.profile.specs.events.EventComponents.{Method, EventComponent, SaysEventComponent, has_accepted, meeting_said, bars_recurrence}
 use Rattle.profile.specs.events.Confirmed.{AreApart, AreOfRule, is_kept}
 use Rattle.profile.specs.events.Occurrences.{Time}
 use Rattle.profile.specs.events.Placed.{IsAt, IsPlaced, SaysPlaced}
@@ -170,7 +170,7 @@ module _ (room words : List ℕ) (zone : Option Zone) (named_zone : IsRoomZone w
       let l = named_lines name claim.content event c in
       let facts = m.says.facts a.to_rooms b.stays in
       let rule = written_rule event.times m.says.meaning event.rule c.rule facts.recurs c.recurs in
-      let adding = adds_instances (Some a.given.method) in
+      let adding = bars_recurrence (Some a.given.method) in
       let w =
       when_of name claim.content event c l plain adding facts rule slot
       (λ some. or_from_right adding (slot_there zone event.written.recurrence event.recurrence slot (as_written room claim.content part a).slot at some)) in

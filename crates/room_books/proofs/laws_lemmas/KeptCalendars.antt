@@ -43,7 +43,7 @@ use Rattle.itip_messages.proofs.law_lemmas.PartTexts.{IsRoom, asked_room}
 use Rattle.room_books.proofs.laws_lemmas.KeptEntries.{SamePlace, EntriesDiffer, place_there, place_from, meeting_from, claims_confirmed, claims_kept, claims_same, entries_differ, entry_placed, of_claims}
 use Rattle.room_books.proofs.laws_lemmas.KeptInstances.{IsHiding, none_left, series_left, singles_left}
 use Rattle.room_books.proofs.laws_lemmas.KeptMeetings.{meeting_trans}
-use Rattle.room_books.proofs.laws_lemmas.KeptReplaced.{replaced_by}
+use Rattle.room_books.proofs.laws_lemmas.KeptReplaced.{excepted_by}
 use Rattle.room_books.proofs.laws_lemmas.KeptRuns.{KeepsAll, runs_keep}
 use Rattle.itip_messages.proofs.shared_lemmas.ObjectTree.{Lines, calendar_own, vevent_lines}
 use Rattle.itip_messages.proofs.shared_lemmas.ZonedObjects.{AreOpening, IsOpenedTree, ZoneBack, calendar_opens, opened_spelled}
@@ -184,10 +184,10 @@ all_series entries = flat_map series_of_claim (claims_kept entries)
 
 -- the series of an event among others
 abbrev series_of : List EventComponent → EventComponent → Event
-series_of saids said = record { master = Some (by_its_rule said (replaced_by said saids).0); overrides = [] }
+series_of saids said = record { master = Some (by_its_rule said (excepted_by said saids).0); overrides = [] }
 
 its_series : (saids : List EventComponent) (said : EventComponent) → IsSeries saids said (series_of saids said)
-its_series saids said = record { replaced = (replaced_by said saids).0; are = (replaced_by said saids).1; is = refl }
+its_series saids said = record { exceptions = (excepted_by said saids).0; are = (excepted_by said saids).1; is = refl }
 
 -- the instances of the series are those of the other that no other part hides
 abbrev IsLeft : List Part → Event → Recurring → Type 0

@@ -1,4 +1,4 @@
--- Which instants of an event other events replace: there is a list of them, ascending.
+-- Which instants of an event EXDATE names, or other events replace: there is a list of them, ascending.
 -- Behind kept_texts_pass, kept_texts_spell, served_texts_pass.
 use Rattle.std.proofs.Common.{◌≡◌, ◌∙◌, ℤ, ◌<ℤ◌, ◌≤ℤ◌, T, Bool, true, false, not, ◌&&◌, ◌⊎◌, ℕ, List, [], ◌∷◌, get_or, Option, Some, None, inl, inr, refl, sym, ap, subst, arith}
 use Rattle.std.specs.Prelude.{AllPairs, Contains}
@@ -10,7 +10,7 @@ use Rattle.std.proofs.lemmas.List.Elements.{All-contains, Contains-get_or}
 use Rattle.std.proofs.lemmas.Option.{same_Some}
 use Rattle.std.proofs.lemmas.Slice.Eq.{bytes_eq-Decides}
 use Rattle.profile.specs.events.EventComponents.{EventComponent, meeting_said}
-use Rattle.profile.specs.events.Confirmed.{AreReplaced, IsReplacedAmong}
+use Rattle.profile.specs.events.Confirmed.{AreAll, IsExcepted, IsReplacedAmong}
 use Rattle.cal_events.proofs.shared_lemmas.InOneOrder.{cons_pairs, head_pairs, tail_pairs}
 use Rattle.itip_order.proofs.Lists.{in_cons, in_head, in_tail, none_in_nil}
 
@@ -108,7 +108,7 @@ module _ (event : EventComponent) where
         | inr apart ↦ inr (λ u s. true≢false (sym (is_same_meeting _ _ s.0) ∙ apart))
       ]
 
-  replaced_more : (other : EventComponent) (events : List EventComponent) (xs : List ℤ) → AreReplaced events event xs → (ys : List ℤ) × AreReplaced (other ∷ events) event ys
+  replaced_more : (other : EventComponent) (events : List EventComponent) (xs : List ℤ) → AreAll (IsReplacedAmong events event) xs → (ys : List ℤ) × AreAll (IsReplacedAmong (other ∷ events) event) ys
   replaced_more other events xs are = by (replaces other)
     where
       later : (t : ℤ) → IsReplacedAmong events event t → IsReplacedAmong (other ∷ events) event t
@@ -117,7 +117,7 @@ module _ (event : EventComponent) where
       at : (t : ℤ) → Contains xs t → IsReplacedAmong events event t
       at t c = All-contains (IsReplacedAmong events event) xs t are.each c
 
-      by : ((t : ℤ) × Replaces other t) ⊎ ((t : ℤ) → Replaces other t → ⊥) → (ys : List ℤ) × AreReplaced (other ∷ events) event ys
+      by : ((t : ℤ) × Replaces other t) ⊎ ((t : ℤ) → Replaces other t → ⊥) → (ys : List ℤ) × AreAll (IsReplacedAmong (other ∷ events) event) ys
       by (inl (t, (of, is))) =
           let put = put_in t xs are.ascending in (
             put.list,
@@ -149,9 +149,41 @@ module _ (event : EventComponent) where
       )
 
   -- the instants that some of the events replace
-  pub replaced_by : (events : List EventComponent) → (xs : List ℤ) × AreReplaced events event xs
+  replaced_by : (events : List EventComponent) → (xs : List ℤ) × AreAll (IsReplacedAmong events event) xs
   replaced_by [] = (
     [],
     record { each = λ i d l. absurd (omega (arith, l)); ascending = λ i j d l w. absurd (omega (arith, w)); all = λ t r. absurd (none_in_nil r.override r.among.0) },
   )
   replaced_by (other ∷ events) = let rest = replaced_by events in replaced_more other events rest.0 rest.1
+
+  -- those that EXDATE names beside
+  with_instants : (P : ℤ → Type 0) (ts xs : List ℤ) → AreAll P xs → (ys : List ℤ) × AreAll (λ u. Contains ts u ⊎ P u) ys
+  with_instants P [] xs are = (
+    xs,
+    record { each = λ i d l. inr (are.each i d l); ascending = are.ascending; all = λ u h. elim h [ inl c ↦ absurd (none_in_nil u c) | inr p ↦ are.all u p ] },
+  )
+  with_instants P (t ∷ ts) xs are =
+      let rest = with_instants P ts xs are in
+      let put = put_in t rest.0 rest.1.ascending in (
+        put.list,
+        record {
+          each = λ i d l. each rest put (get_or put.list i d) (Contains-get_or put.list i d l);
+          ascending = put.ascending;
+          all = λ u h. elim h [
+            | inl c ↦ elim (in_cons t ts u c) [
+              | inl here ↦ subst (λ (z : ℤ). Contains put.list z) here put.has
+              | inr there ↦ put.keeps u (rest.1.all u (inl there))
+            ]
+            | inr p ↦ put.keeps u (rest.1.all u (inr p))
+          ];
+        },
+      )
+    where
+      each : (rest : (ys : List ℤ) × AreAll (λ u. Contains ts u ⊎ P u) ys) (put : IsPutIn t rest.0) (u : ℤ) → Contains put.list u → Contains (t ∷ ts) u ⊎ P u
+      each rest put u c = elim (put.adds u c) [
+        | inl here ↦ inl (subst (λ (z : ℤ). Contains (t ∷ ts) z) here (in_head t ts))
+        | inr there ↦ elim (All-contains (λ v. Contains ts v ⊎ P v) rest.0 u rest.1.each there) [ inl d ↦ inl (in_tail t ts u d) | inr p ↦ inr p ]
+      ]
+
+  pub excepted_by : (events : List EventComponent) → (xs : List ℤ) × AreAll (IsExcepted events event) xs
+  excepted_by events = let replaced = replaced_by events in with_instants (IsReplacedAmong events event) event.exceptions replaced.0 replaced.1

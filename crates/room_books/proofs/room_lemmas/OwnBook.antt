@@ -15,7 +15,7 @@ use Rattle.room_books.specs.declared.kept.Meeting.{Meeting}
 use Rattle.room_books.specs.Room.{is_of_meeting, of_meeting, answers_of, book_of, book_after, AreFitting, IsOwn, Represents}
 use Rattle.room_books.proofs.laws_lemmas.Runs.{new_answer}
 use Rattle.room_books.proofs.room_lemmas.Meetings.{view_of, of_more_own, filter_same, meeting_of_key}
-use Rattle.room_books.proofs.taking_lemmas.Own.{filter_all}
+use Rattle.room_books.proofs.change_lemmas.Own.{filter_all}
 use Rattle.room_books.proofs.shared_lemmas.Pairs.{map_at}
 
 pub own_of : (k : MeetingKey) (entries : List (MeetingKey × Meeting)) (book : Book) → Represents entries book → IsOwn k (book_of k book)

@@ -33,7 +33,7 @@ use Rattle.room_books.proofs.shared_lemmas.Reordering.{re_back, re_in, re_left, 
 use Rattle.room_books.proofs.shared_lemmas.Same.{AreSame}
 use Rattle.room_books.proofs.laws_lemmas.Runs.{new_answer}
 use Rattle.room_books.proofs.shared_lemmas.Loops.{zip_both}
-use Rattle.room_books.proofs.taking_lemmas.Own.{filter_within, filter_all, booked_all, left_booked, one_confirmed, one_given}
+use Rattle.room_books.proofs.change_lemmas.Own.{filter_within, filter_all, booked_all, left_booked, one_confirmed, one_given}
 use Rattle.room_books.proofs.shared_lemmas.Pairs.{pairs_append, pairs_filter, map_from}
 use Rattle.room_books.proofs.shared_lemmas.SlotsApart.{OtherPart, OtherSlot, IsSeen, confirmed_apart, new_once, series_few, single_apart, slots_apart}
 use Rattle.room_books.proofs.shared_lemmas.Places.{booked_from}

@@ -19,7 +19,7 @@ use Rattle.room_books.proofs.shared_lemmas.Partition.{given_by}
 use Rattle.room_books.proofs.shared_lemmas.Reordering.{re_back, re_filter, re_flat, re_in, re_length}
 use Rattle.room_books.proofs.shared_lemmas.Same.{AreSame}
 use Rattle.room_books.proofs.shared_lemmas.SameSeries.{series_none, series_append, series_turn}
-use Rattle.room_books.proofs.taking_lemmas.Own.{filter_within}
+use Rattle.room_books.proofs.change_lemmas.Own.{filter_within}
 
 module _ {X : Type 0} (f : SaidAnswer → List X) (t : List Part) where
   -- those to parts in the view give all that there is

@@ -6,7 +6,7 @@ use Rattle.profile.specs.checker.Instances.{Key, Instance}
 use Rattle.profile.specs.events.EventComponents.{EventComponent}
 use Rattle.profile.specs.events.Events.{Event as Whole}
 use Rattle.profile.specs.events.Starts.{IsStart, IsInstance, EndsAt, key_at}
-use Rattle.cal_events.specs.Component.{component_of}
+use Rattle.cal_events.specs.Recurrence.{master_of}
 use Rattle.cal_events.specs.Series.{series_said}
 use Rattle.cal_events.specs.declared.series.Series.{Series}
 use Rattle.cal_events.specs.declared.sweep.Span.{Span}
@@ -19,7 +19,7 @@ use Rattle.room_books.specs.Meeting.{keyed_instance, of_key, series_of, instance
 module _ (key : MeetingKey) (s : Series) where
   -- its master
   abbrev own : EventComponent
-  own = component_of (own_master s.event s.ruled).0
+  own = master_of s.event.name (own_master s.event s.ruled).0
 
   said_is : series_said s ≡ of_master own
   said_is = (own_master s.event s.ruled).2

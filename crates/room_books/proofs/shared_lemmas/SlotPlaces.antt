@@ -26,7 +26,7 @@ use Rattle.std.proofs.lemmas.List.Edits.{remove-append_right}
 use Rattle.std.proofs.lemmas.List.Folds.{list_any-append}
 use Rattle.room_books.specs.Room.{Pairwise}
 use Rattle.room_books.proofs.room_lemmas.Meetings.{filter_none}
-use Rattle.room_books.proofs.taking_lemmas.Own.{filter_all}
+use Rattle.room_books.proofs.change_lemmas.Own.{filter_all}
 use Rattle.room_books.proofs.shared_lemmas.Pairs.{pairs_append, pairs_filter, pairs_from}
 use Rattle.room_books.proofs.shared_lemmas.Parts.{pairs_across, pairs_left, pairs_right, pairs_to}
 use Rattle.room_books.proofs.shared_lemmas.Reordering.{re_back, re_middle}

@@ -10,7 +10,7 @@ use Rattle.cal_events.specs.declared.component.Attendee.{Attendee}
 use Rattle.cal_events.proofs.shared_lemmas.EventLemmas.{attendee_pushed, attendee_fault, one_other}
 use Rattle.ical_values.proofs.Exits.{err_exit}
 use Rattle.cal_events.proofs.component_values.read_attendees.Goals as goal
-use Rattle.cal_events.proofs.component_values.read_attendees.Goals.{then-is_named+in_ok-read_attendee+in_ok-push, else-is_named}
+use Rattle.cal_events.proofs.component_values.read_attendees.Goals.{then-names+in_ok-read_attendee+in_ok-push, else-names}
 
 pub returns-in_err-read_attendee-clause-fault : goal.returns-in_err-read_attendee-clause-fault
 returns-in_err-read_attendee-clause-fault c = λ object m.
@@ -22,7 +22,7 @@ returns-in_err-read_attendee-clause-fault c = λ object m.
     ap (map line_text) (at_place lines i x c.loop-line-test.true c.line-item.is) in
     err_exit _ (RefusesBy (EventComponentFault object m c.args.properties.now)) _ c.from_residual.ensures.1
     (attendee_fault object m c.args.properties.now (map line_text (drop i lines)) (map line_text (drop (i + 1) lines)) inv.0 (line_text x) _ inv.1
-    steps (sym c.if-is_named.ensures) c.in_err-read_attendee.ensures.fault)
+    steps (sym c.if-names.ensures) c.in_err-read_attendee.ensures.fault)
 
 pub loop-line-preserved : goal.loop-line-preserved
 loop-line-preserved c =
@@ -32,15 +32,15 @@ loop-line-preserved c =
     let x = c.line-item.result in
     let steps : map line_text (drop i lines) ≡ line_text x ∷ map line_text (drop (i + 1) lines) =
     ap (map line_text) (at_place lines i x c.loop-line-test.true c.line-item.is) in
-    elim c.if-is_named.branch [
-      | then-is_named+in_ok-read_attendee+in_ok-push w ↦
+    elim c.if-names.branch [
+      | then-names+in_ok-read_attendee+in_ok-push w ↦
           attendee_pushed c.args.properties.now (map line_text (drop i lines)) (map line_text (drop (i + 1) lines)) inv.0 (line_text x)
-          c.loop-line.attendees.items c.if-is_named.attendees.items w.in_ok-read_attendee.field-0 inv.1 steps (sym w.if-is_named.ensures) inv.2
+          c.loop-line.attendees.items c.if-names.attendees.items w.in_ok-read_attendee.field-0 inv.1 steps (sym w.if-names.ensures) inv.2
           (ap (λ v. v.items) w.attendees-is ∙ w.in_ok-push.ensures.items) w.in_ok-read_attendee.ensures.reads
-      | else-is_named w ↦ (
+      | else-names w ↦ (
         inv.0,
         inv.1 ∙ ap (λ ls. inv.0 ++ lines_named (codes "ATTENDEE") ls) steps
-            ∙ ap (λ ls. inv.0 ++ ls) (one_other (codes "ATTENDEE") (line_text x) (map line_text (drop (i + 1) lines)) (sym w.if-is_named.ensures)),
+            ∙ ap (λ ls. inv.0 ++ ls) (one_other (codes "ATTENDEE") (line_text x) (map line_text (drop (i + 1) lines)) (sym w.if-names.ensures)),
         subst (λ (xs : List Attendee). AllZip IsAttendee inv.0 (map attendee_of xs)) (sym (ap (λ v. v.items) w.attendees-is)) inv.2,
       )
     ]

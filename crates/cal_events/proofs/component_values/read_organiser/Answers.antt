@@ -6,18 +6,15 @@ use Rattle.ical_lines.specs.Text.{line_text}
 use Rattle.profile.specs.text.Values.{IsAddress}
 use Rattle.profile.specs.events.EventComponents.{EventComponentFault}
 use Rattle.profile.specs.events.Properties.{IsNoAddress}
-use Rattle.profile.specs.events.EventComponents.{twice, bad_organiser, no_organiser}
+use Rattle.profile.specs.events.EventComponents.{in_presence, bad_organiser}
 use Rattle.cal_events.specs.Component.{method_read}
 use Rattle.cal_events.proofs.shared_lemmas.EventLemmas.{by_number, some_line}
-use Rattle.cal_events.proofs.shared_lemmas.MethodLemmas.{there_as_said}
 use Rattle.ical_values.proofs.Exits.{err_exit}
 use Rattle.cal_events.proofs.component_values.read_organiser.Goals as goal
 
 pub returns-in_err-line-clause-fault : goal.returns-in_err-line-clause-fault
 returns-in_err-line-clause-fault c object =
-    err_exit _ (RefusesBy (EventComponentFault object (method_read c.args.method) c.args.properties.now)) _ c.from_residual.ensures.1
-    (subst (EventComponentFault object (method_read c.args.method) c.args.properties.now) (sym c.in_err-line.ensures.refuses)
-    (twice (codes "ORGANIZER") (1, omega arith, refl) c.in_err-line.ensures.twice))
+    err_exit _ (RefusesBy (EventComponentFault object (method_read c.args.method) c.args.properties.now)) _ c.from_residual.ensures.1 (in_presence c.in_err-line.ensures.fault)
 
 pub returns-in_err-read-in-Some-clause-fault : goal.returns-in_err-read-in-Some-clause-fault
 returns-in_err-read-in-Some-clause-fault c object =
@@ -27,7 +24,3 @@ returns-in_err-read-in-Some-clause-fault c object =
     (by_number _ P _ 15
     (λ no. bad_organiser (some_line (codes "ORGANIZER") IsNoAddress c.args.properties.now (line_text c.in-Some.line) once (λ h. no (subst IsAddress (sym c.value.ensures) h))))
     c.in_err-read-in-Some.ensures.refuses c.in_err-read-in-Some.ensures.none)
-
-pub returns-in-None-clause-fault : goal.returns-in-None-clause-fault
-returns-in-None-clause-fault c object =
-    no_organiser (there_as_said c.args.method (sym c.if-is_some.ensures)) (c.in_ok-line.ensures.found ∙ ap (λ l. option_to_list (option_map line_text l)) c.in-None.is)

@@ -5,18 +5,15 @@ use Rattle.ical_lines.specs.Text.{line_text}
 use Rattle.profile.specs.text.Lines.{line_value}
 use Rattle.profile.specs.events.EventComponents.{EventComponentFault}
 use Rattle.profile.specs.events.Properties.{IsNoStamp}
-use Rattle.profile.specs.events.EventComponents.{twice, bad_stamp, no_stamp_given}
+use Rattle.profile.specs.events.EventComponents.{in_presence, bad_stamp}
 use Rattle.cal_events.specs.Component.{method_read}
 use Rattle.cal_events.proofs.shared_lemmas.EventLemmas.{some_line}
 use Rattle.ical_values.proofs.Exits.{refusal_exit}
-use Rattle.cal_events.proofs.shared_lemmas.MethodLemmas.{there_as_said}
 use Rattle.cal_events.proofs.component_values.read_stamp.Goals as goal
 
 pub returns-in_err-line-clause-fault : goal.returns-in_err-line-clause-fault
 returns-in_err-line-clause-fault c object =
-    let P = EventComponentFault object (method_read c.args.method) c.args.properties.now in
-    refusal_exit _ P _ c.from_residual.ensures.1
-    (subst P (sym c.in_err-line.ensures.refuses) (twice (codes "DTSTAMP") (2, omega arith, refl) c.in_err-line.ensures.twice))
+    refusal_exit _ (EventComponentFault object (method_read c.args.method) c.args.properties.now) _ c.from_residual.ensures.1 (in_presence c.in_err-line.ensures.fault)
 
 pub returns-in_err-read-in-Some-clause-fault : goal.returns-in_err-read-in-Some-clause-fault
 returns-in_err-read-in-Some-clause-fault c object =
@@ -26,7 +23,3 @@ returns-in_err-read-in-Some-clause-fault c object =
     (subst P (sym c.in_err-read-in-Some.ensures.refuses)
     (bad_stamp (some_line (codes "DTSTAMP") (λ line. IsNoStamp (line_value line)) c.args.properties.now (line_text c.in-Some.line) once
     (subst IsNoStamp c.value.ensures c.in_err-read-in-Some.ensures.none))))
-
-pub returns-in-None-clause-fault : goal.returns-in-None-clause-fault
-returns-in-None-clause-fault c object =
-    no_stamp_given (there_as_said c.args.method (sym c.if-is_some.ensures)) (c.in_ok-line.ensures.found ∙ ap (λ l. option_to_list (option_map line_text l)) c.in-None.is)

@@ -5,5 +5,5 @@ use Rattle.cal_events.proofs.entries.place_of.Goals as goal
 
 pub returns-clause-keeps : goal.returns-clause-keeps
 returns-clause-keeps c =
-    let address = c.in_ok-organiser_of.field-0 in
+    let address = c.in_ok-address_of.field-0 in
     (address_octets address ∷ [], ap (map address_octets) c.in_ok-push.ensures.items ∙ map-append address_octets c.args.organisers.now.items (address ∷ []))

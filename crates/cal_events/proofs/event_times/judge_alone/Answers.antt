@@ -7,11 +7,11 @@ use Rattle.cal_events.proofs.event_times_lemmas.TimesLemmas.{alone_said, alone_j
 use Rattle.cal_events.proofs.event_times.judge_alone.Goals as goal
 
 pub returns-in_err-length-clause-fault : goal.returns-in_err-length-clause-fault
-returns-in_err-length-clause-fault c may object lines a =
-    refusal_exit _ (EventTimesFault may object lines) _ c.from_residual.ensures.1 (alone_judged object lines c.args.extent c.in_err-length.field-0.0.number a c.in_err-length.ensures.fault)
+returns-in_err-length-clause-fault c object lines a =
+    refusal_exit _ (EventTimesFault object lines) _ c.from_residual.ensures.1 (alone_judged object lines c.args.extent c.in_err-length.field-0.0.number a c.in_err-length.ensures.fault)
 
 pub returns-then-not-ends_in-clause-fault : goal.returns-then-not-ends_in-clause-fault
-returns-then-not-ends_in-clause-fault c may object lines a = alone_out object lines c.args.extent a (sym c.ends_in.ensures ∙ c.if-not-ends_in.true)
+returns-then-not-ends_in-clause-fault c object lines a = alone_out object lines c.args.extent a (sym c.ends_in.ensures ∙ c.if-not-ends_in.true)
 
 pub returns-clause-says : goal.returns-clause-says
 returns-clause-says c object lines a =

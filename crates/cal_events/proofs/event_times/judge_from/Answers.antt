@@ -10,12 +10,12 @@ use Rattle.cal_events.proofs.event_times.judge_from.Goals as goal
 use Rattle.cal_events.proofs.event_times.judge_from.Goals.{then-not-in_dates-via-then-not-in_dates, then-not-in_dates-via-else-not-in_dates+then-not-ends_in}
 
 pub returns-in_err-length-clause-fault : goal.returns-in_err-length-clause-fault
-returns-in_err-length-clause-fault c may object lines a =
+returns-in_err-length-clause-fault c object lines a =
     let fault = subst (λ (f : Form). ExtentFault f c.args.extent c.in_err-length.field-0.0.number) c.form.ensures c.in_err-length.ensures.fault in
-    refusal_exit _ (EventTimesFault may object lines) _ c.from_residual.ensures.1 (extent_judged object lines c.args.start c.args.instant c.args.in_dates c.args.extent _ a fault)
+    refusal_exit _ (EventTimesFault object lines) _ c.from_residual.ensures.1 (extent_judged object lines c.args.start c.args.instant c.args.in_dates c.args.extent _ a fault)
 
 pub returns-then-not-in_dates-clause-fault : goal.returns-then-not-in_dates-clause-fault
-returns-then-not-in_dates-clause-fault c may object lines a =
+returns-then-not-in_dates-clause-fault c object lines a =
     elim c.then-not-in_dates.branch [
       | then-not-in_dates-via-then-not-in_dates w ↦ start_judged object lines c.args.start c.args.instant c.args.in_dates c.args.extent a w.if-not-in_dates.true
       | then-not-in_dates-via-else-not-in_dates+then-not-ends_in w ↦ end_judged object lines c.args.start c.args.instant c.args.in_dates c.args.extent a (sym w.ends_in.ensures ∙ w.if-not-ends_in.true)
@@ -23,7 +23,7 @@ returns-then-not-in_dates-clause-fault c may object lines a =
 
 -- what is in the dates has a stamp
 pub returns-in_default-clause-fault : goal.returns-in_default-clause-fault
-returns-in_default-clause-fault c may object lines a =
+returns-in_default-clause-fault c object lines a =
     let instant = c.args.instant in
     let within = within_clock object lines c.args.start instant c.args.in_dates c.args.extent a (search rules) in
     let same : to_z w64 (of_z w64 instant) ≡ instant = omega (arith, ints, within.0, within.1) in

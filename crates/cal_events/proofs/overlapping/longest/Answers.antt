@@ -3,6 +3,7 @@ use Rattle.std.specs.Prelude.{None, Some}
 use Rattle.std.specs.Int.{int_max}
 use Rattle.std.proofs.lemmas.Option.{same_Some}
 use Rattle.cal_events.specs.declared.component.EventComponent.{EventComponent}
+use Rattle.cal_events.specs.declared.recurrence.Recurrence.{Recurrence}
 use Rattle.cal_events.specs.Component.{times_of}
 use Rattle.cal_events.specs.Overlapping.{LastAtMost}
 use Rattle.cal_events.proofs.shared_lemmas.Overlaps.{AllLast, lasts_longer, instance_lasts, later_of, between}
@@ -26,7 +27,7 @@ returns-in-Some-clause-bound c =
     let all = subst (λ (l : List EventComponent). AllLast l v) c.as_slice.ensures.value c.longest_of-of_overrides.ensures.bound in
     rw cast
     (instance_lasts c.args.event.now r
-    (λ d e. subst (λ (x : EventComponent). LastAtMost (times_of x.times) r) (same_Some c.in-Some.master d (sym c.in-Some.is ∙ e)) (lasts_longer (times_of c.in-Some.master.times) n r own c.width.ensures.bound))
+    (λ d e. subst (λ (x : Recurrence). LastAtMost (times_of x.times) r) (same_Some c.in-Some.recurrence d (sym c.in-Some.is ∙ e)) (lasts_longer (times_of c.in-Some.recurrence.times) n r own c.width.ensures.bound))
     (λ o k. lasts_longer (times_of o.times) v r others (all o k)))
 
 pub returns-in-Some-clause-range : goal.returns-in-Some-clause-range
@@ -53,5 +54,5 @@ returns-in-None-clause-bound c =
     let all = subst (λ (l : List EventComponent). AllLast l v) c.as_slice.ensures.value c.longest_of-of_overrides.ensures.bound in
     rw cast_v (instance_lasts c.args.event.now v (λ d e. absurd (nothing d (sym c.in-None.is ∙ e))) all)
   where
-    nothing : (d : EventComponent) → None ≡ Some d → ⊥
+    nothing : (d : Recurrence) → None ≡ Some d → ⊥
     nothing d e = cc

@@ -2,14 +2,14 @@ use Rattle.std.proofs.Common.{◌≡◌, List, ℤ, pos, ◌+ℤ◌, ap, subst, 
 use Rattle.std.proofs.lemmas.Int.{ints}
 use Rattle.profile.specs.series.Zones.{Zone}
 use Rattle.profile.specs.events.Spans.{IsPastOnsets}
-use Rattle.cal_events.specs.Component.{component_of}
+use Rattle.cal_events.specs.Recurrence.{recurring}
 use Rattle.cal_events.specs.Past.{ArePast, IsFirstPast}
 use Rattle.cal_events.proofs.regular_lemmas.Past.{all_past}
 use Rattle.cal_events.proofs.regular.regular_from.Goals as goal
 
 pub returns : goal.returns
 returns c =
-    let master = component_of c.args.master.now in
+    let master = recurring c.args.recurrence.now in
     let t = c.instant-after_start.result in
     let a = t +ℤ pos 1 in
     let b = c.past_onsets-after_onsets.result in
@@ -26,6 +26,6 @@ returns c =
     let same_d : to_z w64 (of_z w64 d) ≡ d = to_z-of_z fits_d in
     let first : a ≡ master.times.start +ℤ pos 1 = ap (λ x. x +ℤ pos 1) c.instant-after_start.ensures.value in
     let onsets = subst (λ (z : Zone). IsFirstPast a (IsPastOnsets z) b) c.clock.ensures (rw (same_t, same_a) at c.past_onsets-after_onsets.ensures) in
-    let exceptions = subst (λ (l : List ℤ). IsFirstPast b (ArePast l) e) c.deref.ensures.value (rw same_b at c.past_exceptions-after_exceptions.ensures) in
+    let exceptions = subst (λ (l : List ℤ). IsFirstPast b (ArePast l) e) c.sorted.ensures (rw same_b at c.past_exceptions-after_exceptions.ensures) in
     let rule = rw same_e at c.past_rule.ensures in
     rw same_d (all_past master a b e d first onsets exceptions rule)

@@ -21,4 +21,4 @@ returns c =
     let slots : c.loop-key.slots.items ≡ map (λ (k : InstanceKey). k.slot) own =
     c.loop-key.invariant ∙ ap (map (λ (k : InstanceKey). k.slot)) (take_all c.loop-key.key-index own c.loop-key-test.false) in
     subst (λ (n : MeetingName). AreSlotsOf (map key_of keys) n c.loop-key.slots.items) said
-    (subst (AreSlotsOf (map key_of keys) m) (sym slots) (own_slots keys c.requires.sorted m c.requires.differ own c.own_keys-key-items.ensures))
+    (subst (AreSlotsOf (map key_of keys) m) (sym slots) (own_slots keys c.requires m own c.own_keys-key-items.ensures))

@@ -11,7 +11,7 @@ returns c =
     let xs = c.if-is_none.instants.items in
     let copied = c.in_ok-instants.ensures ∙ c.deref.ensures.value in
     elim c.if-is_none.branch [
-      | then-is_none+in_ok-push w ↦ with_dtstart master xs c.of.result c.of.ensures (none_there c.args.master.now.rule (c.is_none.ensures ∙ ap not w.if-is_none.true))
+      | then-is_none+in_ok-push w ↦ with_dtstart master xs c.of.result c.of.ensures.same (none_there c.args.master.now.rule (c.is_none.ensures ∙ ap not w.if-is_none.true))
           (ap (λ v. v.items) w.instants-is ∙ w.in_ok-push.ensures.items ∙ (ap (λ (l : List ℤ). l ++ to_z w64 (of_z w64 w.instant.result) ∷ []) copied ∙ ap (λ (t : ℤ). c.args.master.now.additions.items ++ t ∷ []) (search rules)))
-      | else-is_none w ↦ without_dtstart master xs c.of.result c.of.ensures (c.is_none.ensures ∙ ap not w.if-is_none.false) (ap (λ v. v.items) w.instants-is ∙ copied)
+      | else-is_none w ↦ without_dtstart master xs c.of.result c.of.ensures.same (c.is_none.ensures ∙ ap not w.if-is_none.false) (ap (λ v. v.items) w.instants-is ∙ copied)
     ]

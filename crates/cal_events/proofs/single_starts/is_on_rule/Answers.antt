@@ -1,4 +1,4 @@
-use Rattle.std.proofs.Common.{◌≡◌, ◌∙◌, ap, sym, subst, not, [], arith, to_z, of_z, w64, to_z-of_z, ℤ, ◌<ℤ◌}
+use Rattle.std.proofs.Common.{◌≡◌, ◌∙◌, ap, refl, sym, subst, not, [], arith, to_z, of_z, w64, to_z-of_z, ℤ, ◌<ℤ◌}
 use Rattle.std.proofs.lemmas.Bool.{false≢true}
 use Rattle.std.specs.Prelude.{is_some}
 use Rattle.std.specs.Cmp.{unsigned_Decides}
@@ -12,6 +12,9 @@ use Rattle.cal_events.proofs.shared_lemmas.InstanceLemmas.{last_of_rule}
 use Rattle.cal_events.proofs.single_starts_lemmas.SingleStartLemmas.{at, gives, gives_not, gives_none, wanted_at, early_unwanted}
 use Rattle.cal_events.proofs.shared_lemmas.Walks.{walked_on}
 use Rattle.cal_events.proofs.single_starts.is_on_rule.Goals as goal
+
+pub loop-day-init : goal.loop-day-init
+loop-day-init c = c.days_of-days.ensures (component_of c.args.master.now) [] refl refl
 
 pub start_on-start-requires-clause-day : goal.start_on-start-requires-clause-day
 start_on-start-requires-clause-day c =

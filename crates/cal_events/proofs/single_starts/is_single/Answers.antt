@@ -1,11 +1,10 @@
 use Rattle.std.proofs.Common.{◌≡◌, refl, to_z, of_z, w64, to_z-of_z}
-use Rattle.std.proofs.lemmas.List.Sorted.{Contains-permutation}
 use Rattle.cal_events.proofs.single_starts_lemmas.SingleStartLemmas.{left_over, not_left_over}
 use Rattle.cal_events.specs.Component.{component_of}
 use Rattle.cal_events.proofs.single_starts.is_single.Goals as goal
 
 pub is_on_rule-requires-clause-not_excepted : goal.is_on_rule-requires-clause-not_excepted
-is_on_rule-requires-clause-not_excepted c = λ h. (c.if-is_start.ensures.0 refl).1 (Contains-permutation c.args.master.now.exceptions.items c.args.hidden.now _ c.requires.hidden h)
+is_on_rule-requires-clause-not_excepted c = λ h. (c.if-is_start.ensures.0 refl).1 ((c.requires.hidden _).1 h)
 
 pub returns-then-is_start : goal.returns-then-is_start
 returns-then-is_start c =

@@ -10,6 +10,10 @@ use Rattle.cal_events.proofs.single_starts_lemmas.SingleStartLemmas.{AreSoFar, o
 use Rattle.cal_events.proofs.single_starts.single_starts.Goals as goal
 use Rattle.cal_events.proofs.single_starts.single_starts.Goals.{then-not-is_last+then-is_single+in_ok-push, else-not-is_last, else-not-is_last-via-then-not-is_last+else-is_single, else-not-is_last-via-else-not-is_last}
 
+pub is_single-requires-clause-hidden : goal.is_single-requires-clause-hidden
+is_single-requires-clause-hidden c = λ t.
+    subst (λ (l : List ℤ). Contains c.of-hidden.result t ↔ Contains l t) (c.in_ok-copied.ensures ∙ c.deref.ensures.value) (c.of-hidden.ensures.same t)
+
 pub loop-instant-preserved : goal.loop-instant-preserved
 loop-instant-preserved c =
     let event = component_of c.args.master.now in
@@ -20,7 +24,7 @@ loop-instant-preserved c =
     let cast : to_z w64 (of_z w64 x) ≡ x = to_z-of_z fits in
     let here = get_or_default xs k x (pos 0) c.loop-instant-test.true in
     let starts = c.loop-instant.starts.items in
-    let up : IsSorted int_cmp xs = subst (IsSorted int_cmp) (sym c.sorted-instant-items.ensures) (subst (IsSorted int_cmp) c.candidates-2.view_is c.candidates-2.invariant) in
+    let up : IsSorted int_cmp xs = subst (IsSorted int_cmp) (sym c.sorted-instant-items.ensures) (subst (IsSorted int_cmp) c.candidates-2.view_is c.candidates-2.invariant.0) in
     let last = subst (λ (l : List ℤ). IsTrue c.is_last.result ↔ IsLast l x) c.deref-in-loop-instant.ensures.value (rw cast at c.is_last.ensures) in
     elim c.if-not-is_last.branch [
       | then-not-is_last+then-is_single+in_ok-push w ↦ one_more event xs starts up k x c.loop-instant-test.true here c.loop-instant.invariant c.if-not-is_last.starts.items

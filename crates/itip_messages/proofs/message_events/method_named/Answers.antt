@@ -1,9 +1,14 @@
-use Rattle.std.proofs.Common.{◌≡◌, ℕ, List, true, codes, refl, subst}
-use Rattle.std.proofs.lemmas.Slice.Eq.{bytes_eq-Decides}
-use Rattle.profile.specs.text.Lines.{is_same_name}
+use Rattle.std.proofs.Common.{◌∙◌, ap, refl, sym, option_map}
+use Rattle.std.specs.Prelude.{Option, is_some}
+use Rattle.profile.specs.events.EventComponents.{Method}
+use Rattle.cal_events.specs.Component.{method_said}
+use Rattle.itip_messages.proofs.message_events_lemmas.EventsRead.{word_of_found}
 use Rattle.itip_messages.proofs.message_events.method_named.Goals as goal
 
 -- the edit `a_reply_is_a_store` is refused at once by it
-pub returns-then-eq_ignore_ascii_case-4-clause-named : goal.returns-then-eq_ignore_ascii_case-4-clause-named
-returns-then-eq_ignore_ascii_case-4-clause-named c =
-    subst (λ (word : List ℕ). is_same_name word (codes "REPLY") ≡ true) c.value-word.ensures ((bytes_eq-Decides _ _).1 (c.if-eq_ignore_ascii_case-4.ensures.test.0 refl))
+pub returns-in-Some-clause-named : goal.returns-in-Some-clause-named
+returns-in-Some-clause-named c =
+    word_of_found c.args.word.now (method_said c.in-Some.method) (sym c.named.ensures ∙ ap (option_map method_said) c.in-Some.is)
+
+pub returns-in-None-clause-fault : goal.returns-in-None-clause-fault
+returns-in-None-clause-fault c = (refl, ap (λ (o : Option Method). is_some o) (sym c.named.ensures ∙ ap (option_map method_said) c.in-None.is))

@@ -1,10 +1,11 @@
-use Rattle.std.proofs.Common.{◌≡◌, ◌∙◌, ℕ, List, true, map, subst, sym}
+use Rattle.std.proofs.Common.{◌≡◌, ◌∙◌, ℕ, List, Some, true, map, subst, sym}
 use Rattle.std.specs.List.{list_all}
 use Rattle.ical_lines.specs.Fault.{RefusesBy}
 use Rattle.ical_tree.specs.Tree.{tree_of}
 use Rattle.ical_tree.proofs.TreeOfLemmas.{tree_of-own}
 use Rattle.ical_values.proofs.Exits.{err_exit}
-use Rattle.profile.specs.events.Messages.{MethodFault, MessageFault, NamesMethod, has_one_attendee, in_method, is_of_attendee}
+use Rattle.profile.specs.events.Messages.{MethodFault, MessageFault, NamesMethod, has_one_attendee, in_method}
+use Rattle.profile.specs.events.EventComponents.{ATTENDEE, is_of_one, presence}
 use Rattle.cal_events.specs.Component.{component_of, method_said}
 use Rattle.cal_events.specs.declared.component.EventComponent.{EventComponent}
 use Rattle.itip_messages.specs.Message.{IsNotOneEach}
@@ -39,5 +40,5 @@ returns-clause-says c =
     let object = c.args.object.now in
     let method = method_said c.in_ok-method.method in
     let named = subst (λ (ls : List (List ℕ)). NamesMethod ls method) (c.in_ok-properties.ensures ∙ sym (tree_of-own object)) c.in_ok-method.ensures.named in
-    let one_each = subst (λ (l : List EventComponent). is_of_attendee method ≡ true → list_all has_one_attendee (map component_of l) ≡ true) c.deref.ensures.value c.in_ok-judge_attendees.ensures.each in
+    let one_each = subst (λ (l : List EventComponent). is_of_one (presence ATTENDEE (Some method)) ≡ true → list_all has_one_attendee (map component_of l) ≡ true) c.deref.ensures.value c.in_ok-judge_attendees.ensures.each in
     says_events object method named (map component_of c.in_ok-events.events.items) c.in_ok-events.ensures.says one_each

@@ -5,12 +5,12 @@ use Rattle.profile.specs.text.Values.{SpellsLocal, SpellsOffset}
 use Rattle.sched_cli.specs.Blame.{IsWrongInZone}
 use Rattle.sched_cli.proofs.blame.judge_of_zone.Goals as goal
 
-pub returns-in_err-read-in-Time-clause-fault : goal.returns-in_err-read-in-Time-clause-fault
-returns-in_err-read-in-Time-clause-fault c =
+pub returns-in_err-read-in-Start-clause-fault : goal.returns-in_err-read-in-Start-clause-fault
+returns-in_err-read-in-Start-clause-fault c =
     let p = err_from_is_err_and c.from_residual.result c.from_residual.ensures.1 in
     rw (p.1, p.2)
-    (subst (λ x. IsWrongInZone x (line_text c.args.line) c.in_err-read-in-Time.field-0.0.number) (sym c.in-Time.is ∙ c.zone_property.ensures)
-    (c.in_err-read-in-Time.ensures.refuses, λ s says. c.in_err-read-in-Time.ensures.none s (subst (λ v. SpellsLocal v s) (sym c.value.ensures) says)))
+    (subst (λ x. IsWrongInZone x (line_text c.args.line) c.in_err-read-in-Start.field-0.0.number) (sym c.in-Start.is ∙ c.zone_property.ensures)
+    (c.in_err-read-in-Start.ensures.refuses, λ s says. c.in_err-read-in-Start.ensures.none s (subst (λ v. SpellsLocal v s) (sym c.value.ensures) says)))
 
 pub returns-in_err-read-in-Offset-clause-fault : goal.returns-in_err-read-in-Offset-clause-fault
 returns-in_err-read-in-Offset-clause-fault c =

@@ -17,5 +17,5 @@ returns-clause-said g c = said_write _ _ _ _ _ c.report_write.ensures.status c.r
 
 pub returns-in-Ok-print_event-clause-expands : goal.returns-in-Ok-print_event-clause-expands
 returns-in-Ok-print_event-clause-expands g c _ =
-    expanded c.one_instance.ensures.one c.one_instance.ensures.dates (words_of c.args.zone.now) (room_of c.args.zone.now) c.args.octets.now (said_meeting c.in-Ok.event) c.args.limit
-    (g.W.Output.contents c.args.writer.now) (g.W.Output.contents c.print_event.new.writer) c.words_mean.ensures c.in-Ok.ensures.spells c.in-Ok-print_event.ensures.prints
+    expanded c.one_instance.ensures.one c.one_instance.ensures.dates (words_of c.args.zone.now) (room_of c.args.zone.now) c.args.octets.now (said_meeting c.in-Ok.event) c.in-Ok.ensures.spells.said c.args.limit
+    (g.W.Output.contents c.args.writer.now) (g.W.Output.contents c.print_event.new.writer) c.words_mean.ensures c.in-Ok.ensures.spells.is c.in-Ok.ensures.spells.alike c.in-Ok-print_event.ensures.prints

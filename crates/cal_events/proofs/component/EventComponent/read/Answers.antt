@@ -5,13 +5,11 @@ use Rattle.ical_values.specs.Octets.{address_octets, text_octets}
 use Rattle.profile.specs.events.EventComponents.{EventComponent as SaidComponent, SaysEventComponent, instants_of}
 use Rattle.cal_events.specs.Component.{attendee_of}
 use Rattle.ical_lines.specs.Fault.{RefusesBy}
-use Rattle.profile.specs.events.EventComponents.{EventComponentFault, adds_instances, may_lack_start, names_by_fixed, in_times, in_rule, in_occurrences, twice}
+use Rattle.profile.specs.events.EventComponents.{EventComponentFault, bars_recurrence, may_lack_start, names_by_fixed, in_times, in_rule, in_occurrences}
 use Rattle.profile.specs.events.Occurrences.{OccurrenceFault, entries_named, EntriesFault, bad_additions, bad_exceptions, recurs, recurs_as_instance}
 use Rattle.profile.specs.events.EventRules.{EventRuleFault}
-use Rattle.profile.specs.events.ZonedTimes.{EventTimesFault}
 use Rattle.cal_events.specs.Component.{method_read, times_of, time_of, written_of}
 use Rattle.cal_events.specs.declared.time.Time.{Time}
-use Rattle.cal_events.specs.Zoned.{AreSaidBy}
 use Rattle.cal_events.specs.Zones.{object_of}
 use Rattle.cal_events.proofs.shared_lemmas.OneInstance.{times_sound}
 use Rattle.cal_events.proofs.shared_lemmas.Placing.{said_as_written}
@@ -24,7 +22,7 @@ pub returns-in_err-uid-clause-fault : goal.returns-in_err-uid-clause-fault
 returns-in_err-uid-clause-fault c =
     let m = method_read c.args.method in
     let object = object_of c.args.zones.now in
-    err_exit _ (RefusesBy (EventComponentFault object m c.args.properties.now)) _ c.from_residual.ensures.1 (c.in_err-uid.ensures.fault object m)
+    err_exit _ (RefusesBy (EventComponentFault object m c.args.properties.now)) _ c.from_residual.ensures.1 (c.in_err-uid.ensures.fault object)
 
 pub returns-in_err-organiser-clause-fault : goal.returns-in_err-organiser-clause-fault
 returns-in_err-organiser-clause-fault c =
@@ -34,16 +32,15 @@ returns-in_err-organiser-clause-fault c =
 
 pub returns-in_err-cancelled-clause-fault : goal.returns-in_err-cancelled-clause-fault
 returns-in_err-cancelled-clause-fault c =
-    let P = EventComponentFault (object_of c.args.zones.now) (method_read c.args.method) c.args.properties.now in
-    err_exit _ (RefusesBy P) _ c.from_residual-in_err-cancelled.ensures.1
-    (subst P (sym c.in_err-cancelled.ensures.refuses) (twice (codes "STATUS") (4, omega arith, refl) c.in_err-cancelled.ensures.twice))
+    let object = object_of c.args.zones.now in
+    err_exit _ (RefusesBy (EventComponentFault object (method_read c.args.method) c.args.properties.now)) _ c.from_residual-in_err-cancelled.ensures.1
+    (c.in_err-cancelled.ensures.fault object)
 
 pub returns-in_err-said_recurrence-clause-fault : goal.returns-in_err-said_recurrence-clause-fault
 returns-in_err-said_recurrence-clause-fault c =
     let object = object_of c.args.zones.now in
-    let m = method_read c.args.method in
-    err_exit _ (RefusesBy (EventComponentFault object m c.args.properties.now)) _ c.from_residual-in_err-said_recurrence.ensures.1
-    (in_occurrences (c.in_err-said_recurrence.ensures.fault (adds_instances m) (names_by_fixed m)))
+    err_exit _ (RefusesBy (EventComponentFault object (method_read c.args.method) c.args.properties.now)) _ c.from_residual-in_err-said_recurrence.ensures.1
+    c.in_err-said_recurrence.ensures.fault
 
 pub returns-in_err-said_additions-clause-fault : goal.returns-in_err-said_additions-clause-fault
 returns-in_err-said_additions-clause-fault c =
@@ -70,8 +67,8 @@ returns-in_err-refuse_unfixed-clause-fault c =
     let lines = c.args.properties.now in
     err_exit _ (RefusesBy (EventComponentFault object m lines)) _ c.from_residual-in_err-refuse_unfixed.ensures.1
     (in_occurrences
-    (subst (λ (b : Bool). OccurrenceFault (adds_instances m) b object lines c.in_err-refuse_unfixed.field-0.0.number) c.names_by_fixed.ensures
-    (c.in_err-refuse_unfixed.ensures.fault object lines c.in_ok-said_recurrence.ensures.said (adds_instances m))))
+    (subst (λ (b : Bool). OccurrenceFault (bars_recurrence m) b object lines c.in_err-refuse_unfixed.field-0.0.number) c.names_by_fixed.ensures
+    (c.in_err-refuse_unfixed.ensures.fault object lines c.in_ok-said_recurrence.ensures.said (bars_recurrence m))))
 
 pub returns-in_err-judge_recurrence-clause-fault : goal.returns-in_err-judge_recurrence-clause-fault
 returns-in_err-judge_recurrence-clause-fault c =
@@ -79,7 +76,7 @@ returns-in_err-judge_recurrence-clause-fault c =
     let m = method_read c.args.method in
     let lines = c.args.properties.now in
     err_exit _ (RefusesBy (EventComponentFault object m lines)) _ c.from_residual-in_err-judge_recurrence.ensures.1
-    (in_occurrences (c.in_err-judge_recurrence.ensures.fault object lines c.in_ok-said_recurrence.ensures.said (adds_instances m) (names_by_fixed m)))
+    (in_occurrences (c.in_err-judge_recurrence.ensures.fault object lines c.in_ok-said_recurrence.ensures.said (bars_recurrence m) (names_by_fixed m)))
 
 pub returns-in_err-judge-clause-fault : goal.returns-in_err-judge-clause-fault
 returns-in_err-judge-clause-fault c =
@@ -87,7 +84,7 @@ returns-in_err-judge-clause-fault c =
     let m = method_read c.args.method in
     let lines = c.args.properties.now in
     err_exit _ (RefusesBy (EventComponentFault object m lines)) _ c.from_residual-in_err-judge.ensures.1
-    (in_occurrences (c.in_err-judge.ensures.fault object lines c.in_ok-said_additions.ensures.listed (adds_instances m) (names_by_fixed m)))
+    (in_occurrences (c.in_err-judge.ensures.fault object lines c.in_ok-said_additions.ensures.listed (bars_recurrence m) (names_by_fixed m)))
 
 pub returns-in_err-refuse_recurring_instance-clause-fault : goal.returns-in_err-refuse_recurring_instance-clause-fault
 returns-in_err-refuse_recurring_instance-clause-fault c =
@@ -96,7 +93,7 @@ returns-in_err-refuse_recurring_instance-clause-fault c =
     let P = EventComponentFault (object_of c.args.zones.now) m lines in
     err_exit _ (RefusesBy P) _ c.from_residual-in_err-refuse_recurring_instance.ensures.1
     (subst P (sym c.in_err-refuse_recurring_instance.ensures.number)
-    (in_occurrences (recurs (ap (λ b. recurs_as_instance b lines) (sym c.adds_instances.ensures) ∙ c.in_err-refuse_recurring_instance.ensures.recurs))))
+    (in_occurrences (recurs (ap (λ b. recurs_as_instance b lines) (sym c.bars_recurrence.ensures) ∙ c.in_err-refuse_recurring_instance.ensures.recurs))))
 
 pub returns-in_err-said-clause-fault : goal.returns-in_err-said-clause-fault
 returns-in_err-said-clause-fault c =
@@ -104,7 +101,7 @@ returns-in_err-said-clause-fault c =
     let m = method_read c.args.method in
     let lines = c.args.properties.now in
     err_exit _ (RefusesBy (EventComponentFault object m lines)) _ c.from_residual-in_err-said.ensures.1
-    (in_times (subst (λ (b : Bool). EventTimesFault b object lines c.in_err-said.field-0.0.number) c.may_lack_start.ensures c.in_err-said.ensures.fault))
+    c.in_err-said.ensures.fault
 
 pub returns-in_err-said_rule-clause-fault : goal.returns-in_err-said_rule-clause-fault
 returns-in_err-said_rule-clause-fault c =
@@ -112,7 +109,7 @@ returns-in_err-said_rule-clause-fault c =
     let m = method_read c.args.method in
     let lines = c.args.properties.now in
     err_exit _ (RefusesBy (EventComponentFault object m lines)) _ c.from_residual-in_err-said_rule.ensures.1
-    (weaker_fault _ (EventRuleFault object lines) (EventComponentFault object m lines) (λ n h. in_rule h) (c.in_err-said_rule.ensures.fault object))
+    (c.in_err-said_rule.ensures.fault object)
 
 pub returns-in_err-attendees-clause-fault : goal.returns-in_err-attendees-clause-fault
 returns-in_err-attendees-clause-fault c =
@@ -126,7 +123,7 @@ returns-in_err-times-clause-fault c =
     let m = method_read c.args.method in
     let lines = c.args.properties.now in
     err_exit _ (RefusesBy (EventComponentFault object m lines)) _ c.from_residual-in_err-times.ensures.1
-    (in_times (c.in_err-times.ensures.fault (may_lack_start m) object lines (subst (λ (b : Bool). AreSaidBy b object lines c.in_ok-said.said) c.may_lack_start.ensures c.in_ok-said.ensures.said)))
+    (in_times (c.in_err-times.ensures.fault (may_lack_start m) object lines c.in_ok-said.ensures.said))
 
 pub returns-in_err-rule-clause-fault : goal.returns-in_err-rule-clause-fault
 returns-in_err-rule-clause-fault c =
@@ -136,7 +133,7 @@ returns-in_err-rule-clause-fault c =
     err_exit _ (RefusesBy (EventComponentFault object m lines)) _ c.from_residual-in_err-rule.ensures.1
     (weaker_fault _ (EventRuleFault object lines) (EventComponentFault object m lines) (λ n h. in_rule h)
     (c.in_err-rule.ensures.fault (may_lack_start m) object lines c.in_ok-said_rule.ensures.said c.has.ensures
-    (c.in_ok-times.ensures.says (may_lack_start m) object lines (subst (λ (b : Bool). AreSaidBy b object lines c.in_ok-said.said) c.may_lack_start.ensures c.in_ok-said.ensures.said))))
+    (c.in_ok-times.ensures.says (may_lack_start m) object lines c.in_ok-said.ensures.said)))
 
 -- the instants of times as they were read
 abbrev instants_in : List Time → List ℤ
@@ -153,7 +150,7 @@ returns-clause-says c = record {
       let object = object_of c.args.zones.now in
       let lines = c.args.properties.now in
       let may = may_lack_start (method_read c.args.method) in
-      c.in_ok-times.ensures.says may object lines (subst (λ (b : Bool). AreSaidBy b object lines c.in_ok-said.said) c.may_lack_start.ensures c.in_ok-said.ensures.said);
+      c.in_ok-times.ensures.says may object lines c.in_ok-said.ensures.said;
   rule = c.in_ok-rule.ensures.says c.args.properties.now c.in_ok-said_rule.ensures.said c.has.ensures;
   occurrences =
       let object = object_of c.args.zones.now in
@@ -166,7 +163,7 @@ returns-clause-says c = record {
         adds = added.0;
         inside = added.1;
         takes = c.in_ok-said_exceptions.ensures.listed.lists;
-        alone = ap (λ b. recurs_as_instance b lines) (sym c.adds_instances.ensures) ∙ c.in_ok-refuse_recurring_instance.ensures.alone;
+        alone = ap (λ b. recurs_as_instance b lines) (sym c.bars_recurrence.ensures) ∙ c.in_ok-refuse_recurring_instance.ensures.alone;
       };
   instants = record { slot = c.instant.ensures; added = c.in_ok-additions.ensures ∙ ap instants_in c.deref.ensures.value; taken = c.in_ok-exceptions.ensures ∙ ap instants_in c.deref-2.ensures.value };
   summary = c.in_ok-summary.ensures;
@@ -179,7 +176,7 @@ invariant_of-result c =
     let lines = c.args.properties.now in
     let m = method_read c.args.method in
     let may = may_lack_start m in
-    let says = c.in_ok-times.ensures.says may object lines (subst (λ (b : Bool). AreSaidBy b object lines c.in_ok-said.said) c.may_lack_start.ensures c.in_ok-said.ensures.said) in
+    let says = c.in_ok-times.ensures.says may object lines c.in_ok-said.ensures.said in
     let t = times_sound {may = may} object lines (times_of c.in_ok-times.times) says in
     let added = c.in_ok-judge.ensures.says object lines c.in_ok-said_additions.ensures.listed in
     let event : SaidComponent = record {
@@ -211,7 +208,7 @@ invariant_of-result c =
         adds = added.0;
         inside = added.1;
         takes = c.in_ok-said_exceptions.ensures.listed.lists;
-        alone = ap (λ b. recurs_as_instance b lines) (sym c.adds_instances.ensures) ∙ c.in_ok-refuse_recurring_instance.ensures.alone;
+        alone = ap (λ b. recurs_as_instance b lines) (sym c.bars_recurrence.ensures) ∙ c.in_ok-refuse_recurring_instance.ensures.alone;
       };
       instants = record { slot = c.instant.ensures; added = c.in_ok-additions.ensures ∙ ap instants_in c.deref.ensures.value; taken = c.in_ok-exceptions.ensures ∙ ap instants_in c.deref-2.ensures.value };
       summary = c.in_ok-summary.ensures;

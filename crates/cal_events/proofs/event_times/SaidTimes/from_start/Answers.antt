@@ -2,27 +2,28 @@ use Rattle.std.proofs.Common.{◌≡◌, Bool, false, codes, sym, subst, arith, 
 use Rattle.std.proofs.lemmas.Int.{ints}
 use Rattle.profile.specs.series.Zones.{Means}
 use Rattle.ical_lines.specs.Text.{line_text}
-use Rattle.profile.specs.events.ZonedTimes.{EventTimesFault, ZonedTimeFault, bad_start}
+use Rattle.profile.specs.events.ZonedTimes.{ZonedTimeFault, bad_start}
+use Rattle.profile.specs.events.EventComponents.{EventComponentFault, in_times}
 use Rattle.ical_values.proofs.Exits.{refusal_exit}
 use Rattle.cal_events.proofs.shared_lemmas.EventLemmas.{some_line}
 use Rattle.std.specs.Prelude.{◌↔◌, IsTrue}
 use Rattle.profile.specs.events.ZonedTimes.{IsInDates, clock_of}
 use Rattle.cal_events.specs.Zones.{object_of}
-use Rattle.cal_events.specs.Component.{form_said, zone_said, local_said}
+use Rattle.cal_events.specs.Component.{method_read, form_said, zone_said, local_said}
 use Rattle.cal_events.proofs.event_times.SaidTimes.from_start.Goals as goal
 
 pub returns-in_err-start-clause-fault : goal.returns-in_err-start-clause-fault
-returns-in_err-start-clause-fault c may =
+returns-in_err-start-clause-fault c =
     let object = object_of c.args.zones.now in
     let lines = c.args.properties.now in
     let line = line_text c.args.line in
-    let P = EventTimesFault may object lines in
+    let P = EventComponentFault object (method_read c.args.method) lines in
     refusal_exit _ P _ c.from_residual.ensures.1
-    (bad_start (some_line (codes "DTSTART") (λ l. ZonedTimeFault object l _) lines line c.requires.once c.in_err-start.ensures.fault))
+    (in_times (bad_start (some_line (codes "DTSTART") (λ l. ZonedTimeFault object l _) lines line c.requires.once c.in_err-start.ensures.fault)))
 
 pub returns-in_err-extent-clause-fault : goal.returns-in_err-extent-clause-fault
-returns-in_err-extent-clause-fault c may =
-    refusal_exit _ (EventTimesFault may (object_of c.args.zones.now) c.args.properties.now) _ c.from_residual-in_err-extent.ensures.1 (c.in_err-extent.ensures.fault may)
+returns-in_err-extent-clause-fault c =
+    refusal_exit _ (EventComponentFault (object_of c.args.zones.now) (method_read c.args.method) c.args.properties.now) _ c.from_residual-in_err-extent.ensures.1 c.in_err-extent.ensures.fault
 
 pub returns-clause-said : goal.returns-clause-said
 returns-clause-said c may =

@@ -19,7 +19,7 @@ returns-in-From-clause-fault c may object lines a =
     let fits : FitsSigned w64 c.in-From.instant = search rules in
     let kept : to_z w64 (of_z w64 c.in-From.instant) ≡ c.in-From.instant = to_z-of_z fits in
     let said : AreSaidBy may object lines (From c.in-From.start c.in-From.instant c.in-From.in_dates c.in-From.extent) = subst (λ (x : SaidTimes). AreSaidBy may object lines x) c.in-From.is a in
-    c.judge_from.ensures.fault may object lines (rw kept said)
+    c.judge_from.ensures.fault object lines (rw kept said)
 
 pub returns-in-Alone-clause-says : goal.returns-in-Alone-clause-says
 returns-in-Alone-clause-says c may object lines a =
@@ -28,4 +28,4 @@ returns-in-Alone-clause-says c may object lines a =
 
 pub returns-in-Alone-clause-fault : goal.returns-in-Alone-clause-fault
 returns-in-Alone-clause-fault c may object lines a =
-    c.judge_alone.ensures.fault may object lines (subst (λ (x : SaidTimes). AreSaidBy may object lines x) c.in-Alone.is a).1
+    c.judge_alone.ensures.fault object lines (subst (λ (x : SaidTimes). AreSaidBy may object lines x) c.in-Alone.is a).1

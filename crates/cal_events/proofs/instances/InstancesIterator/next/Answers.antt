@@ -18,7 +18,7 @@ invariant_of-self-2 c =
     let start : to_z w64 (of_z w64 p.start) ≡ p.start = to_z-of_z fits in
     let fits_slot : FitsSigned w64 p.slot = search rules in
     let slot : to_z w64 (of_z w64 p.slot) ≡ p.slot = to_z-of_z fits_slot in
-    record { passed = passed_at s.event.now.master s.event.now.overrides.items s.after p (to_z w64 (of_z w64 p.start)) (to_z w64 (of_z w64 p.slot)) c.first_place.new.days start slot held.1 c.first_place.ensures.passed; reads = c.first_place.ensures.reads }
+    record { passed = passed_at s.event.now.recurrence s.after p (to_z w64 (of_z w64 p.start)) (to_z w64 (of_z w64 p.slot)) c.first_place.new.days start slot held.1 c.first_place.ensures.passed; reads = c.first_place.ensures.reads }
 
 pub instance_at-requires : goal.instance_at-requires
 instance_at-requires c =

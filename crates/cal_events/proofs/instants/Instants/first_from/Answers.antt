@@ -11,7 +11,7 @@ pub returns-then-at-len : goal.returns-then-at-len
 returns-then-at-len c =
     let from = c.args.from in
     let xs = c.deref.result.now in
-    let up = subst (IsSorted int_cmp) (sym c.deref.ensures.value) c.self.invariant in
+    let up = subst (IsSorted int_cmp) (sym c.deref.ensures.value) c.self.invariant.0 in
     let same : to_z w64 (of_z w64 from) ≡ from = to_z-of_z c.ranges.from in
     let point = IsPartitionPoint-from_clause (λ y. int_lt y from) xs c.partition_point-at.result c.partition_point-at.ensures.partitioned (parted xs up from) (λ a r q k. search rules) in
     let is = c.deref.ensures.value ∙ c.self.view_is in
@@ -25,7 +25,7 @@ pub returns : goal.returns
 returns c =
     let from = c.args.from in
     let xs = c.deref.result.now in
-    let up = subst (IsSorted int_cmp) (sym c.deref.ensures.value) c.self.invariant in
+    let up = subst (IsSorted int_cmp) (sym c.deref.ensures.value) c.self.invariant.0 in
     let same : to_z w64 (of_z w64 from) ≡ from = to_z-of_z c.ranges.from in
     let point = IsPartitionPoint-from_clause (λ y. int_lt y from) xs c.partition_point-at.result c.partition_point-at.ensures.partitioned (parted xs up from) (λ a r q k. search rules) in
     let is = c.deref.ensures.value ∙ c.self.view_is in

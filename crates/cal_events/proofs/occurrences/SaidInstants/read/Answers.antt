@@ -10,7 +10,7 @@ use Rattle.cal_events.specs.Occurrences.{name_of, AreListed}
 use Rattle.cal_events.specs.declared.occurrences.SaidInstants.{SaidInstants}
 use Rattle.cal_events.proofs.occurrences_lemmas.OccurrenceLemmas.{line_next, other_next, still_refused}
 use Rattle.cal_events.proofs.occurrences.SaidInstants.read.Goals as goal
-use Rattle.cal_events.proofs.occurrences.SaidInstants.read.Goals.{then-is_named+in_ok-add_line, else-is_named}
+use Rattle.cal_events.proofs.occurrences.SaidInstants.read.Goals.{then-names+in_ok-add_line, else-names}
 
 pub returns-in_err-add_line-clause-fault : goal.returns-in_err-add_line-clause-fault
 returns-in_err-add_line-clause-fault c =
@@ -24,7 +24,7 @@ returns-in_err-add_line-clause-fault c =
     let left = map line_text (drop i lines) in
     let rest = map line_text (drop (i + 1) lines) in
     let steps : left ≡ line_text x ∷ rest = ap (map line_text) (at_place lines i x c.loop-line-test.true c.line-item.is) in
-    let named = sym (c.if-is_named.ensures ∙ ap (λ n. is_of n (line_text x)) c.name.ensures) in
+    let named = sym (c.if-names.ensures ∙ ap (λ n. is_of n (line_text x)) c.property-property.ensures) in
     err_exit _ (RefusesBy (EntriesFault object name (entries_named name all))) _ c.from_residual.ensures.1
     (still_refused object name (inv.0 ++ entries_of (line_text x)) (entries_named name rest) (entries_named name all) _
     (line_next name all left rest (line_text x) inv.0 inv.1 steps named) (c.in_err-add_line.ensures.fault inv.0 inv.2))
@@ -41,15 +41,15 @@ loop-line-preserved c =
     let left = map line_text (drop i lines) in
     let rest = map line_text (drop (i + 1) lines) in
     let steps : left ≡ line_text x ∷ rest = ap (map line_text) (at_place lines i x c.loop-line-test.true c.line-item.is) in
-    elim c.if-is_named.branch [
-      | then-is_named+in_ok-add_line w ↦ (
+    elim c.if-names.branch [
+      | then-names+in_ok-add_line w ↦ (
         inv.0 ++ entries_of (line_text x),
-        line_next name all left rest (line_text x) inv.0 inv.1 steps (sym (w.if-is_named.ensures ∙ ap (λ n. is_of n (line_text x)) c.name.ensures)),
+        line_next name all left rest (line_text x) inv.0 inv.1 steps (sym (w.if-names.ensures ∙ ap (λ n. is_of n (line_text x)) c.property-property.ensures)),
         subst (λ (s : SaidInstants). AreListed object name (inv.0 ++ entries_of (line_text x)) s) (sym w.said-is) (w.in_ok-add_line.ensures.adds inv.0 inv.2),
       )
-      | else-is_named w ↦ (
+      | else-names w ↦ (
         inv.0,
-        other_next name all left rest (line_text x) inv.0 inv.1 steps (sym (w.if-is_named.ensures ∙ ap (λ n. is_of n (line_text x)) c.name.ensures)),
+        other_next name all left rest (line_text x) inv.0 inv.1 steps (sym (w.if-names.ensures ∙ ap (λ n. is_of n (line_text x)) c.property-property.ensures)),
         subst (λ (s : SaidInstants). AreListed object name inv.0 s) (sym w.said-is) inv.2,
       )
     ]

@@ -1,41 +1,25 @@
-use Rattle.std.proofs.Common.{◌≡◌, ◌∙◌, Some, ap, sym, subst}
-use Rattle.std.specs.Prelude.{option_map}
-use Rattle.std.proofs.lemmas.Option.{same_Some}
+use Rattle.std.proofs.Common.{◌≡◌, ◌∙◌, ◌++◌, List, ℤ, ap, sym, subst, inl, inr, ◌⊎◌}
+use Rattle.std.specs.Prelude.{Contains}
 use Rattle.std.proofs.lemmas.Result.{IfOk-weaker}
-use Rattle.profile.specs.events.EventComponents.{EventComponent as Said}
-use Rattle.cal_events.specs.Clocks.{HasGoodClock}
-use Rattle.cal_events.specs.Component.{component_of}
-use Rattle.cal_events.specs.Overlapping.{HaveOneEnd}
-use Rattle.cal_events.specs.Ruled.{ruled_without}
+use Rattle.std.proofs.lemmas.List.Elements.{Contains-append_left, Contains-append_right, Contains-append_cases}
+use Rattle.profile.specs.events.Confirmed.{IsByItsRule}
+use Rattle.cal_events.specs.Recurrence.{master_of}
 use Rattle.cal_events.specs.Series.{series_said, IsSeriesWithout}
-use Rattle.cal_events.specs.declared.component.EventComponent.{EventComponent}
-use Rattle.cal_events.specs.declared.series.Series.{Series}
-use Rattle.cal_events.proofs.shared_lemmas.OwnSingles.{of_master}
-use Rattle.cal_events.proofs.shared_lemmas.SeriesLemmas.{left_of, left_ends, own_master}
+use Rattle.cal_events.proofs.shared_lemmas.SeriesLemmas.{alone_said, left_of, ruled_so}
 use Rattle.cal_events.proofs.series.Series.without.Goals as goal
-
--- its master is the one that is looked up
-same_master : (series : Series) (found : EventComponent) → (series_said series).master ≡ Some (component_of found) → component_of (own_master series.event series.ruled).0 ≡ component_of found
-same_master series found is = let m = own_master series.event series.ruled in same_Some (component_of m.0) (component_of found) (sym (ap (option_map component_of) m.1) ∙ is)
-
-pub of_copy-requires-clause-clock : goal.of_copy-requires-clause-clock
-of_copy-requires-clause-clock c =
-    let series = c.args.self.now in
-    let m = own_master series.event series.ruled in
-    subst HasGoodClock (same_master series c.master.result.now c.master.ensures.master) (series.event.clock m.0 m.1)
-
-pub of_copy-requires-clause-ends : goal.of_copy-requires-clause-ends
-of_copy-requires-clause-ends c =
-    let series = c.args.self.now in
-    let m = own_master series.event series.ruled in
-    left_ends (component_of c.master.result.now) c.args.starts.now
-    (subst (λ (e : Said). HaveOneEnd (of_master e)) (same_master series c.master.result.now c.master.ensures.master) (subst HaveOneEnd m.2 series.event.ends))
 
 pub returns : goal.returns
 returns c =
     let series = c.args.self.now in
-    let m = own_master series.event series.ruled in
-    let same = same_master series c.master.result.now c.master.ensures.master in
-    IfOk-weaker c.of_copy.result (λ left. series_said left ≡ of_master (ruled_without (component_of c.master.result.now) c.args.starts.now)) (λ left. IsSeriesWithout (series_said series) c.args.starts.now (series_said left))
-    (λ left is. left_of (component_of m.0) (series.ruled.1.0 m.0 m.1).1 c.args.starts.now (series_said series) (series_said left) m.2 (is ∙ ap (λ (e : Said). of_master (ruled_without e c.args.starts.now)) (sym same)))
-    c.of_copy.ensures
+    let r = c.recurrence.result.now in
+    let own = master_of series.event.name r in
+    let starts = c.args.starts.now in
+    let all = c.extend_from_slice.new.self.items in
+    let is : all ≡ r.exceptions ++ starts = c.in_ok-extend_from_slice.ensures.items ∙ ap (λ (l : List ℤ). l ++ starts) (c.in_ok-exceptions.ensures ∙ c.sorted.ensures) in
+    IfOk-weaker c.except.result (λ left. IsByItsRule own (Contains all) (series_said left)) (λ left. IsSeriesWithout (series_said series) starts (series_said left))
+    (λ left s.
+    left_of own (series.ruled.1.0 r c.recurrence.ensures.is).1 starts (series_said series) (series_said left) (alone_said series.event series.ruled.1.1 r c.recurrence.ensures.is)
+    (ruled_so own (Contains all) (series_said left) s (λ t. Contains r.exceptions t ⊎ Contains starts t)
+    (λ t h. Contains-append_cases r.exceptions starts t (subst (λ (l : List ℤ). Contains l t) is h))
+    (λ t h. subst (λ (l : List ℤ). Contains l t) (sym is) (elim h [ inl l ↦ Contains-append_left r.exceptions starts t l | inr l ↦ Contains-append_right r.exceptions starts t l ]))))
+    (c.except.ensures own c.recurrence.ensures.master)

@@ -19,77 +19,77 @@ pub returns-then-is_empty-clause-added : goal.returns-then-is_empty-clause-added
 returns-then-is_empty-clause-added c =
     let k = c.args.key.now in let es = c.args.self.now.meetings.entries in let before = answers_by (lookup (same_key k) es) in
     let changes = c.in_ok-of.field-0 in
-    let same = answers_alone before c.args.lost.items c.args.left.items changes (ap (λ v. v.items) c.in_ok-of.ensures.lost) c.in_ok-of.ensures.new in
-    added_none (answers_then before changes) (kept_then (lookup (same_key k) es) c.args.lost.items c.args.left.items) c.new.result.items same c.new.ensures.items
+    let same = answers_alone before c.args.change.lost.items c.args.change.left.items changes (ap (λ v. v.items) c.in_ok-of.ensures.lost) c.in_ok-of.ensures.new in
+    added_none (answers_then before changes) (kept_then (lookup (same_key k) es) c.args.change.lost.items c.args.change.left.items) c.new.result.items same c.new.ensures.items
 
 pub returns-then-is_empty-clause-answered : goal.returns-then-is_empty-clause-answered
 returns-then-is_empty-clause-answered c =
     let k = c.args.key.now in let es = c.args.self.now.meetings.entries in let before = answers_by (lookup (same_key k) es) in
     let none : c.args.asked.now ≡ [] = grind (arith, common_steps) in
-    (none, answers_alone before c.args.lost.items c.args.left.items c.in_ok-of.field-0 (ap (λ v. v.items) c.in_ok-of.ensures.lost) c.in_ok-of.ensures.new)
+    (none, answers_alone before c.args.change.lost.items c.args.change.left.items c.in_ok-of.field-0 (ap (λ v. v.items) c.in_ok-of.ensures.lost) c.in_ok-of.ensures.new)
 
 pub returns-then-is_empty-clause-joins : goal.returns-then-is_empty-clause-joins
 returns-then-is_empty-clause-joins c =
     let k = c.args.key.now in let es = c.args.self.now.meetings.entries in let before = answers_by (lookup (same_key k) es) in
     let few = c.args.self.now.timeline.few in let counted = c.args.self.now.counted in
     let changes = c.in_ok-of.field-0 in
-    let kept = kept_then (lookup (same_key k) es) c.args.lost.items c.args.left.items in
-    let same = answers_alone before c.args.lost.items c.args.left.items changes (ap (λ v. v.items) c.in_ok-of.ensures.lost) c.in_ok-of.ensures.new in
+    let kept = kept_then (lookup (same_key k) es) c.args.change.lost.items c.args.change.left.items in
+    let same = answers_alone before c.args.change.lost.items c.args.change.left.items changes (ap (λ v. v.items) c.in_ok-of.ensures.lost) c.in_ok-of.ensures.new in
     joins_reordered (others k es) k kept (answers_then before changes) same
     (kept_joins k es (all_singles kept) c.keys_differ.ensures c.args.self.now.clear c.args.self.now.apart (omega (arith, few, counted))
-    (parted_part (singles_by (lookup (same_key k) es)) c.args.gone.now (all_singles kept) c.requires.parted))
+    (parted_part (singles_by (lookup (same_key k) es)) c.args.change.gone.items (all_singles kept) c.requires.parted))
 
 pub returns-then-is_empty-clause-recurs : goal.returns-then-is_empty-clause-recurs
 returns-then-is_empty-clause-recurs c =
     let k = c.args.key.now in let es = c.args.self.now.meetings.entries in let before = answers_by (lookup (same_key k) es) in
     let changes = c.in_ok-of.field-0 in
-    let kept = kept_then (lookup (same_key k) es) c.args.lost.items c.args.left.items in
-    let same = answers_alone before c.args.lost.items c.args.left.items changes (ap (λ v. v.items) c.in_ok-of.ensures.lost) c.in_ok-of.ensures.new in
+    let kept = kept_then (lookup (same_key k) es) c.args.change.lost.items c.args.change.left.items in
+    let same = answers_alone before c.args.change.lost.items c.args.change.left.items changes (ap (λ v. v.items) c.in_ok-of.ensures.lost) c.in_ok-of.ensures.new in
     all_reordered (beside k es) k kept (answers_then before changes) same
-    (kept_all_join k es kept c.keys_differ.ensures c.args.gone.now c.requires.parted c.requires.less c.args.self.now.series_clear c.args.self.now.series c.args.self.now.series_counted c.args.self.now.series_few)
+    (kept_all_join k es kept c.keys_differ.ensures c.args.change.gone.items c.requires.parted c.requires.less c.args.self.now.series_clear c.args.self.now.series c.args.self.now.series_counted c.args.self.now.series_few)
 
 pub returns-clause-answered : goal.returns-clause-answered
 returns-clause-answered c =
     let k = c.args.key.now in let es = c.args.self.now.meetings.entries in let before = answers_by (lookup (same_key k) es) in
     let some : c.args.asked.now ≢ [] = λ e. true≢false (ap (λ (l : List (Bor Claim)). length l == 0) (sym e) ∙ sym c.is_empty.ensures ∙ c.if-is_empty.false) in
     let candidates = c.in_ok-candidates.candidates.items in
-    let decision = whole_as (beside k es) k (lookup (same_key k) es) c.deref.result.now c.args.lost.items c.deref-2.result.now c.args.left.items c.deref-3.result.now candidates c.in_ok-outcome.outcome
-    c.deref.ensures.value c.deref-2.ensures.value c.deref-3.ensures.value c.in_ok-outcome.ensures in
-    let same = answers_both before c.args.lost.items c.args.left.items c.in_ok-new.new.items c.append.new.self.items c.in_ok-changes.changes (ap (λ v. v.items) c.in_ok-changes.ensures.lost) c.in_ok-append.ensures.items c.in_ok-changes.ensures.new in
+    let decision = whole_as (beside k es) k (lookup (same_key k) es) c.deref.result.now c.args.change.lost.items c.deref-2.result.now c.args.change.left.items c.deref-4.result.now candidates c.in_ok-outcome.outcome
+    c.deref.ensures.value c.deref-2.ensures.value c.deref-4.ensures.value c.in_ok-outcome.ensures in
+    let same = answers_both before c.args.change.lost.items c.args.change.left.items c.in_ok-new.new.items c.append.new.self.items c.in_ok-changes.changes (ap (λ v. v.items) c.in_ok-changes.ensures.lost) c.in_ok-append.ensures.items c.in_ok-changes.ensures.new in
     (some, (candidates, c.in_ok-new.new.items, c.in_ok-candidates.ensures, c.in_ok-new.ensures, decision, same))
 
 pub returns-clause-added : goal.returns-clause-added
 returns-clause-added c =
     let k = c.args.key.now in let es = c.args.self.now.meetings.entries in let before = answers_by (lookup (same_key k) es) in
-    let kept = kept_then (lookup (same_key k) es) c.args.lost.items c.args.left.items in
+    let kept = kept_then (lookup (same_key k) es) c.args.change.lost.items c.args.change.left.items in
     let changes = c.in_ok-changes.changes in
-    let same = answers_both before c.args.lost.items c.args.left.items c.in_ok-new.new.items c.append.new.self.items changes (ap (λ v. v.items) c.in_ok-changes.ensures.lost) c.in_ok-append.ensures.items c.in_ok-changes.ensures.new in
-    added_parted (answers_then before changes) kept c.in_ok-new.new.items c.in_ok-added.added.items same (c.in_ok-added.ensures ∙ ap all_singles c.deref-4.ensures.value)
+    let same = answers_both before c.args.change.lost.items c.args.change.left.items c.in_ok-new.new.items c.append.new.self.items changes (ap (λ v. v.items) c.in_ok-changes.ensures.lost) c.in_ok-append.ensures.items c.in_ok-changes.ensures.new in
+    added_parted (answers_then before changes) kept c.in_ok-new.new.items c.in_ok-added.added.items same (c.in_ok-added.ensures ∙ ap all_singles c.deref-5.ensures.value)
 
 pub returns-clause-joins : goal.returns-clause-joins
 returns-clause-joins c =
     let k = c.args.key.now in let es = c.args.self.now.meetings.entries in let before = answers_by (lookup (same_key k) es) in
     let few = c.args.self.now.timeline.few in let counted = c.args.self.now.counted in
-    let kept = kept_then (lookup (same_key k) es) c.args.lost.items c.args.left.items in
+    let kept = kept_then (lookup (same_key k) es) c.args.change.lost.items c.args.change.left.items in
     let joins = kept_joins k es (all_singles kept) c.keys_differ.ensures c.args.self.now.clear c.args.self.now.apart (omega (arith, few, counted))
-    (parted_part (singles_by (lookup (same_key k) es)) c.args.gone.now (all_singles kept) c.requires.parted) in
+    (parted_part (singles_by (lookup (same_key k) es)) c.args.change.gone.items (all_singles kept) c.requires.parted) in
     let candidates = c.in_ok-candidates.candidates.items in
     let new = c.in_ok-new.new.items in
     let changes = c.in_ok-changes.changes in
-    let decision = whole_as (beside k es) k (lookup (same_key k) es) c.deref.result.now c.args.lost.items c.deref-2.result.now c.args.left.items c.deref-3.result.now candidates c.in_ok-outcome.outcome
-    c.deref.ensures.value c.deref-2.ensures.value c.deref-3.ensures.value c.in_ok-outcome.ensures in
-    let same = answers_both before c.args.lost.items c.args.left.items new c.append.new.self.items changes (ap (λ v. v.items) c.in_ok-changes.ensures.lost) c.in_ok-append.ensures.items c.in_ok-changes.ensures.new in
+    let decision = whole_as (beside k es) k (lookup (same_key k) es) c.deref.result.now c.args.change.lost.items c.deref-2.result.now c.args.change.left.items c.deref-4.result.now candidates c.in_ok-outcome.outcome
+    c.deref.ensures.value c.deref-2.ensures.value c.deref-4.ensures.value c.in_ok-outcome.ensures in
+    let same = answers_both before c.args.change.lost.items c.args.change.left.items new c.append.new.self.items changes (ap (λ v. v.items) c.in_ok-changes.ensures.lost) c.in_ok-append.ensures.items c.in_ok-changes.ensures.new in
     joins_reordered (others k es) k (kept ++ new) (answers_then before changes) same (answers_join (others k es) k c.in_ok-outcome.outcome kept candidates new decision.joins c.in_ok-new.ensures joins)
 
 pub returns-clause-recurs : goal.returns-clause-recurs
 returns-clause-recurs c =
     let k = c.args.key.now in let es = c.args.self.now.meetings.entries in let before = answers_by (lookup (same_key k) es) in
-    let kept = kept_then (lookup (same_key k) es) c.args.lost.items c.args.left.items in
-    let joins = kept_all_join k es kept c.keys_differ.ensures c.args.gone.now c.requires.parted c.requires.less c.args.self.now.series_clear c.args.self.now.series c.args.self.now.series_counted c.args.self.now.series_few in
+    let kept = kept_then (lookup (same_key k) es) c.args.change.lost.items c.args.change.left.items in
+    let joins = kept_all_join k es kept c.keys_differ.ensures c.args.change.gone.items c.requires.parted c.requires.less c.args.self.now.series_clear c.args.self.now.series c.args.self.now.series_counted c.args.self.now.series_few in
     let candidates = c.in_ok-candidates.candidates.items in
     let new = c.in_ok-new.new.items in
     let changes = c.in_ok-changes.changes in
-    let decision = whole_as (beside k es) k (lookup (same_key k) es) c.deref.result.now c.args.lost.items c.deref-2.result.now c.args.left.items c.deref-3.result.now candidates c.in_ok-outcome.outcome
-    c.deref.ensures.value c.deref-2.ensures.value c.deref-3.ensures.value c.in_ok-outcome.ensures in
-    let same = answers_both before c.args.lost.items c.args.left.items new c.append.new.self.items changes (ap (λ v. v.items) c.in_ok-changes.ensures.lost) c.in_ok-append.ensures.items c.in_ok-changes.ensures.new in
+    let decision = whole_as (beside k es) k (lookup (same_key k) es) c.deref.result.now c.args.change.lost.items c.deref-2.result.now c.args.change.left.items c.deref-4.result.now candidates c.in_ok-outcome.outcome
+    c.deref.ensures.value c.deref-2.ensures.value c.deref-4.ensures.value c.in_ok-outcome.ensures in
+    let same = answers_both before c.args.change.lost.items c.args.change.left.items new c.append.new.self.items changes (ap (λ v. v.items) c.in_ok-changes.ensures.lost) c.in_ok-append.ensures.items c.in_ok-changes.ensures.new in
     all_reordered (beside k es) k (kept ++ new) (answers_then before changes) same (answers_series_join (beside k es) k c.in_ok-outcome.outcome kept candidates new decision.series c.in_ok-new.ensures joins)

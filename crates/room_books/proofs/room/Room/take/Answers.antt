@@ -35,7 +35,7 @@ take_claims-requires-clause-delivered c = ∥∥₁_map c.args.message.now.read 
     let claimed = subst (AreClaimed (address_octets c.args.self.now.address) (room_of c.args.self.now.zone) read.said) (sym c.deref-2.ensures.value) (c.in_ok-claims.ensures read.said read.are) in
     let is : Some first ≡ slice_get claims 0 = subst (λ (l : List Claim). Some first ≡ slice_get l 0) (c.deref.ensures.value ∙ sym c.deref-2.ensures.value) c.in-Some.ensures.value in (
       record { octets = read.octets; message = read.said; spells = read.spells; are = claimed.are },
-      λ key k. claimed.fit key first (first_in claims first is) k,
+      claimed.fit c.in_ok-key.key first (first_in claims first is) c.in_ok-key.ensures,
     ))
 
 pub returns-clause-steps : goal.returns-clause-steps
@@ -49,7 +49,7 @@ returns-clause-steps c = λ message says book st.
       claimed.are,
       subst (λ (adds : Bool). StepsWith room c.take_claims.new.self.meetings.entries book (claims_said claims) c.args.now (kind_view c.in_ok-answer.answer.kind) (reply_octets c.in_ok-answer.answer) adds (refresh_octets c.in_ok-answer.answer))
           (c.is_add-adds.ensures ∙ ap (λ (m : Method). is_add (method_said m)) c.method.ensures ∙ ap is_add says.method)
-          (c.in_ok-answer.ensures.steps (λ key k. claimed.fit key first (first_in claims first is) k) book st),
+          (c.in_ok-answer.ensures.steps (claimed.fit c.in_ok-key.key first (first_in claims first is) c.in_ok-key.ensures) book st),
     )
 
 -- ---- where it is accepted, and what a decline names

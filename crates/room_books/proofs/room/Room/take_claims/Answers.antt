@@ -9,7 +9,7 @@ use Rattle.room_books.proofs.room_lemmas.PutIn.{lookup_put}
 use Rattle.std.proofs.lemmas.List.{length-map}
 use Rattle.ical_values.specs.Octets.{address_octets}
 use Rattle.cal_zones.specs.RoomZones.{room_of}
-use Rattle.room_books.specs.Taking.{claim_said, claims_said, kind_view, octets_in}
+use Rattle.room_books.specs.Taking.{claim_said, claims_said, kind_view, refresh_octets, reply_octets}
 use Rattle.room_books.specs.Room.{book_after}
 use Rattle.room_books.proofs.room_lemmas.Reaching.{reached_then}
 use Rattle.room_books.proofs.room_lemmas.Representing.{claims_step, now_represents}
@@ -20,12 +20,12 @@ pub put-requires-clause-reaches : goal.put-requires-clause-reaches
 put-requires-clause-reaches c entries put = ∥∥₁_map₂ c.args.self.now.reached c.requires.delivered (λ was delivered.
     let room = address_octets c.args.self.now.address in
     let es = c.args.self.now.meetings.entries in
-    let key = c.in_ok-key.key in
+    let key = c.args.key in
     let claims = claims_said c.args.claims.now in
     let some : 0 < length claims = omega (arith, length-map c.args.claims.now claim_said, c.requires.some) in
-    let fit = delivered.1 key c.in_ok-key.ensures in
-    let kind = kind_view c.in_ok-changes.field-0.kind in
-    let after = c.in_ok-changes.ensures.after c.in_ok-key.ensures fit was.book was.represents put.meeting put.made in
+    let fit = delivered.1 in
+    let kind = kind_view c.in_ok-decided.answer.kind in
+    let after = c.in_ok-decided.ensures.after fit was.book was.represents put.meeting put.made in
     record {
       book = book_after was.book claims c.args.now after.outcome;
       reached = reached_then room (room_of c.args.self.now.zone) was.book (record { claims = claims; moment = c.args.now }) after.outcome (book_after was.book claims c.args.now after.outcome) was.reached delivered.0 after.step;
@@ -33,15 +33,14 @@ put-requires-clause-reaches c entries put = ∥∥₁_map₂ c.args.self.now.rea
     })
 
 pub returns-clause-steps : goal.returns-clause-steps
-returns-clause-steps c = λ fits book st.
-    let key = c.in_ok-key.key in
+returns-clause-steps c = λ fit book st.
+    let key = c.args.key in
     let claims = claims_said c.args.claims.now in
     let some : 0 < length claims = omega (arith, length-map c.args.claims.now claim_said, c.requires.some) in
-    let fit = fits key c.in_ok-key.ensures in
     let es = c.args.self.now.meetings.entries in
     let put = c.in_ok-put.ensures.put in
-    claims_step (address_octets c.args.self.now.address) es c.put.new.self.meetings.entries book key claims c.args.now (kind_view c.in_ok-changes.field-0.kind) put.meeting
-    (octets_in c.in_ok-changes.field-0.reply) c.args.adds (octets_in c.in_ok-changes.field-0.refresh) some st fit (c.in_ok-changes.ensures.after c.in_ok-key.ensures fit book st put.meeting put.made) put.entries
+    claims_step (address_octets c.args.self.now.address) es c.put.new.self.meetings.entries book key claims c.args.now (kind_view c.in_ok-decided.answer.kind) put.meeting
+    (reply_octets c.in_ok-decided.answer) c.args.adds (refresh_octets c.in_ok-decided.answer) some st fit (c.in_ok-decided.ensures.after fit book st put.meeting put.made) put.entries
     (λ q. ap (lookup (same_key q)) put.entries ∙ lookup_put key q put.meeting es)
-    (λ own is_own meets. c.in_ok-changes.ensures.replies own put.meeting fit is_own put.made meets)
-    (λ before after b a. c.in_ok-changes.ensures.refreshes before after b (subst (λ (l : List Part). RepresentsHistory l after) put.made.held_is a))
+    (λ own is_own meets. c.in_ok-decided.ensures.replies own put.meeting fit is_own put.made meets)
+    (λ before after b a. c.in_ok-decided.ensures.refreshes before after b (subst (λ (l : List Part). RepresentsHistory l after) put.made.held_is a))

@@ -1,7 +1,0 @@
-use Rattle.std.proofs.Common.{take}
-use Rattle.itip_order.specs.Registers.{RepresentsHistory}
-use Rattle.room_books.specs.Taking.{parts_said}
-use Rattle.room_books.proofs.taking.parts_of.Given as goal
-
-abbrev pub invariant-loop-claim : goal.invariant-loop-claim
-invariant-loop-claim l = RepresentsHistory l.parts (parts_said (take l.claim-index l.claims))
