@@ -66,7 +66,7 @@ CALLS = {
         "room_books": ["Room::calendar_text", "Room::certificate_text", "answers_name_texts"],
     },
     "door": {
-        "cal_doors": ["GeneralZone::read", "date_at_start_adds_nothing", "GeneralZone::from_instant", "GeneralZone::between", "GeneralZone::last_onset", "Run::once", "Run::yearly",
+        "cal_doors": ["GeneralZone::read", "date_at_start_adds_nothing", "GeneralZone::from_instant", "GeneralZone::between", "GeneralZone::table_end", "Run::once", "Run::yearly",
                       "zones_are_general", "NamedZones::of", "NamedZones::named", "is_time_line", "adapt", "adapted_says_the_same", "zones_are_clocks", "starts_are_known", "returned", "split"],
         "sched_doors": ["Door::pass"],
         "sched_cli": ["run_adapt", "run_returned"],

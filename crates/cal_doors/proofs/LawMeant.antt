@@ -13,7 +13,7 @@ use Rattle.profile.specs.series.GeneralZones.{Run, IsGeneralOffsetAt, MeansGener
 use Rattle.profile.specs.series.GeneralZoneTexts.{SaysGeneralZone}
 use Rattle.profile.specs.events.EventRules.{IsOnDay}
 use Rattle.profile.specs.doors.Uses.{IsLineIn, SaysLocal, EventBeginsBy, EventEndsBy, LastsDays}
-use Rattle.profile.specs.doors.Adapting.{IsAdapted, IsZoneGiven, TakesPlace, IsSameFor, always, as_long, beyond, tables_end, IsOverAt}
+use Rattle.profile.specs.doors.Adapting.{IsAdapted, IsZoneGiven, TakesPlace, IsSameFor, always, as_long, beyond, IsTableEnd}
 use Rattle.profile.specs.doors.OnClocks.{SaysSameAs, IsDaysLaterOn}
 use Rattle.cal_doors.specs.Laws.{IsMeantAfter, SaysTheSame, SaysSameUpTo, SaysTheSameUpTo}
 use Rattle.cal_doors.proofs.LawEvents.{OneRule, says_same, start_from, later_there}
@@ -45,11 +45,10 @@ module _ (meant part : Tree) (runs : List Run) (zone : Zone) (general : SaysGene
       (same.means_there local t (omega (arith, ints, f)) (omega (arith, ints, l)), same.means_back local t (omega (arith, ints, f)) (omega (arith, ints, l))))
       (λ t local s. (general_shown meant runs general t local s).0) (λ t local s. (zone_shown part zone read t local s).0) (λ none. absurd (some_none end (sym e ∙ none))) one_rule name lines begins ends
 
-  up_to_end : (to : ℤ) → tables_end ≤ℤ to → IsOverAt runs to → IsSameBetween runs zone (first -ℤ pos 86_399) to → SaysSameUpTo runs zone name lines
-  up_to_end to in_tables over same = record {
+  up_to_end : (to : ℤ) → IsTableEnd runs to → IsSameBetween runs zone (first -ℤ pos 86_399) to → SaysSameUpTo runs zone name lines
+  up_to_end to ended same = record {
     to = to;
-    to_2036 = in_tables;
-    is_over = over;
+    table_end = ended;
     times = λ line local t is says upto. meaning local t (begins.times line local is says) upto;
     starts = λ start local from second day t _ is says on later upto. meaning (local_time day second) t (on_later start local from second day is says on later) upto;
     ends = λ start line local length t end _ is says there lasts may upto.
@@ -86,12 +85,12 @@ module _ (meant part : Tree) (runs : List Run) (zone : Zone) (general : SaysGene
   pub says_so : IsSameFor runs zone false first last → SaysSameAs runs zone name lines
   says_so (always exact same) = from_first same
   says_so (as_long end exact e same) = while_it_lasts end e same
-  says_so (beyond to does in_tables over same) = absurd (true≢false (sym does))
+  says_so (beyond to does ended same) = absurd (true≢false (sym does))
 
   pub says_so_up_to : IsSameFor runs zone true first last → SaysSameUpTo runs zone name lines
   says_so_up_to (always exact same) = absurd (true≢false exact)
   says_so_up_to (as_long end exact e same) = absurd (true≢false exact)
-  says_so_up_to (beyond to does in_tables over same) = up_to_end to in_tables over same
+  says_so_up_to (beyond to does ended same) = up_to_end to ended same
 
 -- ---- what was adapted
 

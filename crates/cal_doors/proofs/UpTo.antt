@@ -126,4 +126,4 @@ lasts_as_long zone z first from last e (end, is, same) = as_long end refl is (su
 
 pub goes_on_beyond : (zone : List Run) (z : Zone) (goes_on : Bool) (first from : ℤ) (last : Option ℤ) → from ≡ first -ℤ pos 86_399 → GoesOnFrom zone z goes_on from
     → IsSameFor zone z goes_on first last
-goes_on_beyond zone z goes_on first from last e (to, does, late, over, same) = beyond to does late over (subst (λ f. IsSameBetween zone z f to) e same)
+goes_on_beyond zone z goes_on first from last e (to, does, ended, same) = beyond to does ended (subst (λ f. IsSameBetween zone z f to) e same)

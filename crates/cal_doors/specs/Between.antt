@@ -2,7 +2,7 @@
 use Rattle.std.specs.Prelude.{◌≡◌, ◌↔◌, ℕ, Bool, true, List, Option, Some, ℤ, pos, ◌+ℤ◌, ◌≤ℤ◌}
 use Rattle.profile.specs.series.Zones.{Zone, Observance, Onset}
 use Rattle.profile.specs.series.GeneralZones.{End, Run, IsInTime, IsRunOnset, IsGeneralOnset, IsSameBetween}
-use Rattle.profile.specs.doors.Adapting.{tables_end, IsOverAt}
+use Rattle.profile.specs.doors.Adapting.{IsTableEnd}
 
 -- an onset of a run has come
 abbrev pub HasRunBegun : Run → ℤ → Type 0
@@ -28,7 +28,7 @@ AreSameUpTo to zone other = (onset : Onset) → onset.instant ≤ℤ to → IsGe
 abbrev pub LastsAsLong : List Run → Zone → ℤ → Option ℤ → Type 0
 LastsAsLong zone other from last = (end : ℤ) × (last ≡ Some end) × IsSameBetween zone other from (end +ℤ pos 86_399)
 
--- it does up to the end of the onsets before the end of times in 32 bits, in 2036 or later
+-- it does up to the end of the onsets before the end of times in 32 bits, of which something is stated from 2036 on
 abbrev pub GoesOnFrom : List Run → Zone → Bool → ℤ → Type 0
 GoesOnFrom zone other goes_on from =
-    (to : ℤ) × (goes_on ≡ true) × (tables_end ≤ℤ to) × IsOverAt zone to × IsSameBetween zone other from to
+    (to : ℤ) × (goes_on ≡ true) × IsTableEnd zone to × IsSameBetween zone other from to

@@ -9,7 +9,7 @@ use Rattle.profile.specs.events.Properties.{Length, LastsFor, lines_named}
 use Rattle.profile.specs.events.EventRules.{IsOnDay}
 use Rattle.profile.specs.events.ZonedTimes.{zone_named}
 use Rattle.profile.specs.doors.Uses.{IsLineIn, SaysLocal}
-use Rattle.profile.specs.doors.Adapting.{IsMeant, IsOverAt, tables_end}
+use Rattle.profile.specs.doors.Adapting.{IsMeant, IsTableEnd}
 use Rattle.profile.specs.doors.OnClocks.{IsDaysLaterOn, MayStart, SaysSameAs}
 
 -- what the name means at the door says these runs, and so they are
@@ -32,13 +32,12 @@ pub record IsMeantAfter (listed : Option Tree) (before after : Tree) (name : Lis
 abbrev pub SaysTheSame : Option Tree → Tree → Tree → List ℕ → List (List ℕ) → Type 0
 SaysTheSame listed before after name lines = IsMeantAfter listed before after name (λ runs zone. SaysSameAs runs zone name lines)
 
--- it does up to the end of the onsets before 2038-01-19T03:14:07Z, which is in 2036 or later: each local time that it names means the same, and where
+-- it does up to the end of the onsets before 2038-01-19T03:14:07Z, of which something is stated from 2036 on: each local time that it names means the same, and where
 -- DTSTART is one of them, so does that second of each day from it on, the starts by a rule among these, and nominal days from a start on end at the same
 -- instant. By local times all this is a day earlier than that end
 pub record SaysSameUpTo (runs : List Run) (zone : Zone) (name : List ℕ) (lines : List (List ℕ)) : Type 0 where
   pub to : ℤ
-  pub to_2036 : tables_end ≤ℤ to
-  pub is_over : IsOverAt runs to
+  pub table_end : IsTableEnd runs to
   pub times : (line : List ℕ) (local t : ℤ) → IsLineIn name lines line → SaysLocal line local → (local +ℤ pos 86_399) ≤ℤ to
       → MeansGenerally runs local t ↔ Means zone local t
   pub starts : (start : List ℕ) (local : ℤ) (first second day : ℕ) (t : ℤ) → Contains (lines_named (codes "DTSTART") lines) start → IsLineIn name lines start

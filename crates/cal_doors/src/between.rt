@@ -1,7 +1,7 @@
 //! What some runs are between two instants: onsets after the later one are left aside.
 
-ghost use Rattle.std.specs.Prelude.{◌≡◌, true, IfOk};
-ghost use Rattle.profile.specs.doors.Adapting.{IsOverAt};
+ghost use Rattle.std.specs.Prelude.{◌≡◌, true, IfOk, IfSome};
+ghost use Rattle.profile.specs.doors.Adapting.{IsOverAt, IsStatedLate, IsTableEnd, ReachesTablesEnd};
 ghost use Rattle.cal_doors.specs.Ends.{end_of};
 ghost use Rattle.cal_doors.specs.Runs.{run_of, runs_in};
 ghost use Rattle.cal_doors.specs.Between.{HasOnsetBy, HasRunBegun, AreSameUpTo, IsSameEndUpTo};
@@ -10,6 +10,9 @@ use crate::end::End;
 use crate::places::latest_place;
 use crate::run::Run;
 use std::alloc::{AllocError, Global};
+
+/// 2036-01-01T00:00:00Z: programs write their zones up to some year not before this; this profile's choice.
+const TABLES_END: i64 = 2_082_758_400;
 
 /// 2038-01-19T03:14:07Z, the last second of times in 32 bits: what a table that ends there says from then on is made up.
 const TIMES_END: i64 = 2_147_483_647;
@@ -86,6 +89,16 @@ impl Run {
         endless
     }
 
+    /// Whether it states something of 2036 or later, before times in 32 bits end.
+    fn is_stated_late(&self) -> bool
+        ensures { result ≡ true → IsStatedLate (run_of self.now) }
+    {
+        match self.last_stated(TIMES_END - 1) {
+            Some(stated) => TABLES_END <= stated && stated < TIMES_END,
+            None => false,
+        }
+    }
+
     /// The run up to an instant, after which it has no onset, unless its onsets are counted.
     fn ending(&self, to: i64) -> Run
         ensures { IsSameRunUpTo to (run_of self.now) (run_of result) }
@@ -107,8 +120,31 @@ fn ending_by(end: End, to: i64) -> End
     }
 }
 
+/// The end of a table that reaches 2036. None where it isn't known to.
+pub(crate) fn table_end(runs: &[Run]) -> Option<i64>
+    ensures { IfSome result (IsTableEnd (runs_in runs.now)) }
+{
+    let to = last_of_all(runs);
+    if to < TABLES_END || !reaches_tables_end(runs) {
+        return None;
+    }
+    Some(to)
+}
+
+/// Whether a run states something of 2036 or later, before times in 32 bits end.
+fn reaches_tables_end(runs: &[Run]) -> bool
+    ensures { result ≡ true → ReachesTablesEnd (runs_in runs.now) }
+{
+    for run in runs {
+        if run.is_stated_late() {
+            return true;
+        }
+    }
+    false
+}
+
 /// No onset before the end of times in 32 bits is later than this.
-pub(crate) fn last_of_all(runs: &[Run]) -> i64
+fn last_of_all(runs: &[Run]) -> i64
     ensures { IsOverAt (runs_in runs.now) result }
 {
     let mut last = i64::MIN;

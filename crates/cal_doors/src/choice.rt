@@ -11,9 +11,6 @@ use crate::zone::GeneralZone;
 use cal_zones::Zone;
 use std::alloc::{AllocError, Global};
 
-/// 2036-01-01T00:00:00Z: programs write their zones up to some year not before this; this profile's choice.
-const TABLES_END: i64 = 2_082_758_400;
-
 /// How far a clock may show a local time from the instant: less than a day.
 const LEAST_OF_DAY: i64 = 86_399;
 
@@ -68,14 +65,13 @@ fn as_long(
     general.between(alloc, from, to)
 }
 
-/// The zone that does the same up to the end of the onsets before the end of times in 32 bits, in 2036 or later, and goes on. None where none is found.
+/// The zone that does the same up to the end of a table that reaches 2036, and goes on. None where none is found.
 fn beyond(alloc: Global, general: &GeneralZone, from: i64) -> Result<Option<Choice>, AllocError>
     ensures { IfOk result (λ found. IfSome found (λ c. GoesOnFrom (general_of general.now) (zone_of c.zone) c.goes_on from)) }
 {
-    let to = general.last_onset();
-    if to < TABLES_END {
+    let Some(to) = general.table_end() else {
         return Ok(None);
-    }
+    };
     match general.between(alloc, from, to)? {
         Some(zone) => Ok(Some(Choice {
             zone,

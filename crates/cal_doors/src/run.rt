@@ -37,6 +37,7 @@ impl Run {
     ghost use Rattle.std.specs.Prelude.{◌↔◌, IsSome};
     ghost use Rattle.profile.specs.series.Zones as said;
     ghost use Rattle.profile.specs.series.GeneralZoneTexts.{IsRunAt};
+    ghost use Rattle.profile.specs.doors.Adapting.{StatesAt};
     ghost use Rattle.cal_zones.specs.Shapes.{occurs_yearly};
     ghost use Rattle.cal_doors.specs.Ends.{end_of};
     ghost use Rattle.cal_doors.specs.Runs.{IsYearlyRun, run_of, AreUpTo, IsAlike, ReachTo};
@@ -121,6 +122,23 @@ impl Run {
             Some(last) if last <= instant => Some(last),
             _ => self.latest_bound(instant),
         }
+    }
+
+    /// The last instant up to another of which it states something: the UNTIL of its rule, where that is no later, or else its last onset.
+    /// None where there is none, and where the onsets are counted: then it isn't known.
+    pub(crate) fn last_stated(&self, instant: i64) -> Option<i64>
+        ensures { IfSome result (StatesAt (run_of self.now)) }
+    {
+        if let End::At(until) = self.end {
+            if until <= instant {
+                return Some(until);
+            }
+        }
+        let latest = self.latest_bound(instant)?;
+        if !self.begins_at(latest) {
+            return None;
+        }
+        Some(latest)
     }
 
     /// Whether no onset comes after an instant. It isn't known where the onsets are counted.

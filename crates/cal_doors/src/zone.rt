@@ -1,7 +1,7 @@
 //! A zone in general, and the zone of the accepted form that it is from an instant on.
 
 use crate::after::{offset_at, still_after, zone_after};
-use crate::between::{ending, going_on, has_begun, last_of_all};
+use crate::between::{ending, going_on, has_begun, table_end};
 use crate::read::read_runs;
 use crate::run::Run;
 use cal_zones::Zone;
@@ -21,7 +21,7 @@ impl GeneralZone {
     ghost use Rattle.ical_tree.specs.Tree.{tree_of};
     ghost use Rattle.profile.specs.series.GeneralZoneTexts.{SaysGeneralZone, GeneralZoneFault};
     ghost use Rattle.profile.specs.series.GeneralZones.{IsSameFrom, IsSameBetween};
-    ghost use Rattle.profile.specs.doors.Adapting.{IsOverAt, IsSameFor};
+    ghost use Rattle.profile.specs.doors.Adapting.{IsTableEnd, IsSameFor};
     ghost use Rattle.cal_zones.specs.Kinds.{zone_of};
     ghost use Rattle.cal_doors.specs.Runs.{runs_in};
     ghost use Rattle.cal_doors.specs.Found.{general_of};
@@ -84,10 +84,12 @@ impl GeneralZone {
         Ok(shorter.from_instant(from))
     }
 
-    /// No onset before 2038-01-19T03:14:07Z, the end of times in 32 bits, is later than this.
-    pub fn last_onset(&self) -> i64
-        ensures { IsOverAt (general_of self.now) result }
+    /// Where its table ends, in seconds from 1970-01-01T00:00:00Z: no onset before 2038-01-19T03:14:07Z, the end of times in 32 bits, is later, and an
+    /// onset or the UNTIL of a rule is in 2036 or later, before that. None where the table ends earlier, and where it is known to reach 2036 only
+    /// by onsets that are counted.
+    pub fn table_end(&self) -> Option<i64>
+        ensures { IfSome result (IsTableEnd (general_of self.now)) }
     {
-        last_of_all(self.runs.as_slice())
+        table_end(self.runs.as_slice())
     }
 }

@@ -7,13 +7,13 @@ use Rattle.std.proofs.lemmas.Int.{ints}
 use Rattle.std.proofs.lemmas.Nat.{div-add-mod'}
 use Rattle.std.proofs.lemmas.Nat.Gcd.{mod-eq-zero_of_dvd}
 use Rattle.profile.specs.checker.Instances.{Instance}
-use Rattle.profile.specs.series.Repeating.{ArcsMeet, IsCongruent, LastsAtMost, StartsAt}
+use Rattle.profile.specs.series.Repeating.{ArcsMeet, IsCongruent}
+use Rattle.profile.proofs.Repeats.{LastsAtMost, StartsAt, residues_apart, residues_alone}
 use Rattle.profile.specs.series.Periods.{IsMultiple}
 use Rattle.profile.specs.events.Events.{Event}
 use Rattle.profile.specs.events.Residues.{IsResidue}
 use Rattle.profile.specs.events.Spans.{IsSaidSeries, IsWidthOf}
 use Rattle.profile.specs.events.Starts.{IsInstance, Overlaps}
-use Rattle.profile.proofs.Repeats.{residues_apart, residues_alone}
 use Rattle.cal_events.specs.Series.{AreKnownByStart}
 use Rattle.cal_period.specs.Clear.{AreSeriesClear, IsSeriesClear}
 use Rattle.cal_period.specs.Members.{Lasts}

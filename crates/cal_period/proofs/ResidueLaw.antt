@@ -4,13 +4,13 @@ use Rattle.std.proofs.lemmas.Option.{same_Some}
 use Rattle.std.specs.Prelude.{Some, Contains}
 use Rattle.profile.specs.checker.Instances.{Instance, IsWithin}
 use Rattle.profile.specs.series.Rules.{Rule}
-use Rattle.profile.specs.series.Repeating.{IsCongruent, LastsAtMost, StartsAt}
+use Rattle.profile.specs.series.Repeating.{IsCongruent}
+use Rattle.profile.proofs.Repeats.{LastsAtMost, StartsAt, residues_apart, residues_alone}
 use Rattle.profile.specs.events.EventComponents.{EventComponent}
 use Rattle.profile.specs.events.Events.{Event}
 use Rattle.profile.specs.events.Spans.{IsSaidSeries, IsWidthOf}
 use Rattle.profile.specs.events.Starts.{IsInstance, IsGiven, IsRuleStart}
 use Rattle.profile.specs.events.Residues.{IsResidue, ResiduesHold}
-use Rattle.profile.proofs.Repeats.{residues_apart, residues_alone}
 use Rattle.profile.proofs.ResidueStarts.{start_at_residue}
 use Rattle.cal_events.proofs.shared_lemmas.DraftKeys.{some_there}
 use Rattle.cal_period.specs.Members.{Lasts}

@@ -7,14 +7,14 @@ use mathlib.Core.HLevel.{⊥_prop}
 use Rattle.std.specs.Prelude.{Option, Some, None, Contains}
 use Rattle.profile.specs.text.Trees.{Tree}
 use Rattle.profile.specs.checker.Instances.{Key, Instance, AreClear, IsWithin, horizon}
-use Rattle.profile.specs.series.Repeating.{LastsAtMost, RepeatsFrom}
+use Rattle.profile.specs.series.Repeating.{RepeatsFrom}
+use Rattle.profile.proofs.Repeats.{LastsAtMost, always}
 use Rattle.profile.specs.series.Zones.{Zone}
 use Rattle.profile.specs.series.ZoneTexts.{SaysZone}
 use Rattle.profile.specs.events.EventComponents.{EventComponent}
 use Rattle.profile.specs.events.Events.{Event}
 use Rattle.profile.specs.events.Spans.{AreSaidSeries, IsBoundOf, IsPastAll, IsPeriodOf, IsSaidSeries, IsSpan, IsWidthOf, SpanHolds, StartsBelow}
 use Rattle.profile.specs.events.Starts.{IsInstance, key_at}
-use Rattle.profile.proofs.Repeats.{always}
 use Rattle.cal_zones.specs.Repeats.{IsRegular}
 use Rattle.cal_events.specs.Series.{AreKnownByStart}
 use Rattle.cal_events.specs.declared.instance.Instance.{Instance as Found}

@@ -1,9 +1,16 @@
 -- The offset of a zone, and what a local time means in it.
 use Rattle.std.proofs.Common.{◌≡◌, ◌∙◌, sym, subst, refl, inl, inr, ◌⊎◌, Option, arith, ℤ, pos, negsuc, ◌+ℤ◌, ◌≤ℤ◌}
 use Rattle.jiff_core.proofs.SignedLemmas.{signed_arith}
-use Rattle.profile.specs.series.Zones.{Observance, Zone, Constant, Single, Pair, Onset, IsOnset, IsZoneOnset, IsLatest, IsFirstOf, NoneBegun, InForce, Since, Until, IsOffsetAt, IsBounds, IsShownFirst, IsSkipped, Means, AreFirstOnsets, onset_at}
+use Rattle.profile.specs.series.Zones.{Observance, Zone, Constant, Single, Pair, Onset, IsOnset, IsZoneOnset, IsLatest, IsFirstOf, NoneBegun, InForce, Since, Until, IsOffsetAt, IsBounds, IsShownFirstBy, IsSkippedBy, Means, AreFirstOnsets, onset_at}
 use Rattle.cal_zones.specs.Kinds.{AreEnds, IsOrdered}
 use Rattle.cal_zones.proofs.Force.{OneAtOnce, one_offset, Between, between}
+
+-- the two ways in which a local time means an instant, in a zone
+abbrev pub IsShownFirst : Zone → ℤ → ℤ → Type 0
+IsShownFirst zone local instant = IsShownFirstBy (IsOffsetAt zone) local instant
+
+abbrev pub IsSkipped : Zone → ℤ → ℤ → Type 0
+IsSkipped zone local instant = IsSkippedBy (IsOffsetAt zone) (IsZoneOnset zone) local instant
 
 -- of two observances the one with the later onset
 pub latest_left : (a b : Observance) (t x : ℤ) → IsLatest (IsOnset a) t (onset_at a x) → ((other : Onset) → IsOnset b other → other.instant ≤ℤ t → other.instant ≤ℤ x) → IsOffsetAt (Pair a b) t a.offset_to

@@ -1,15 +1,12 @@
 -- Which number lines are refused with.
-use Rattle.std.proofs.Common.{◌≡◌, ℕ, suc, zero, ◌+◌, ◌-◌, Bool, true, false, not, ◌&&◌, ◌||◌, cond, eqb, ltb, Option, None, Some, List, [], ◌∷◌, length, take, refl, ap, subst, ◌∙◌, arith}
+use Rattle.std.proofs.Common.{◌≡◌, ℕ, suc, ◌+◌, ◌-◌, Bool, true, false, ◌&&◌, ◌||◌, cond, eqb, ltb, Option, None, Some, List, [], ◌∷◌, length, take, refl, ap, subst, ◌∙◌, arith}
 use Rattle.std.specs.List.{find, list_any}
 use Rattle.std.proofs.Math.Bool.{or-true}
-use Rattle.std.proofs.lemmas.Bool.{ltb-false, ltb-true, lt-ltb, or_parts, and_parts, not-true}
+use Rattle.std.proofs.lemmas.Bool.{ltb-false, ltb-true, lt-ltb}
 use Rattle.std.proofs.lemmas.Bool.Decides.{Decides-eqb}
 use Rattle.std.specs.Str.{is_utf8}
-use Rattle.profile.specs.text.Lines.{ended, logical_lines, reads_as_lines, line_has, is_faulty, lacks_colon, has_bad_name, has_bad_quote, has_control}
-use Rattle.profile.specs.faults.First.{least_fault, judged, fault_of, lines_fault, text_fault, is_number, is_first_fault}
-use Rattle.ical_lines.specs.Fault.{RefusesOnly}
-use Rattle.ical_lines.specs.declared.fault.Fault.{Fault}
-use Rattle.ical_lines.specs.declared.fault.Fault.TheVariants.{Refused, Memory}
+use Rattle.profile.specs.text.Lines.{ended, logical_lines, line_has, is_faulty, lacks_colon, has_bad_name, has_bad_quote, has_control}
+use Rattle.profile.specs.faults.First.{least_fault, judged, fault_of, lines_fault, text_fault, is_number}
 
 -- the lines that are judged, after this many
 abbrev pub judged_after : Bool → ℕ → List (List ℕ) → List (List ℕ)
@@ -72,37 +69,3 @@ lines_first b n octets lines e u o h =
     rw (o, u) k
 
 -- ---- octets that read as lines are refused with no number of lines
-
-none_found : (n : ℕ) (lines : List (List ℕ)) → list_any is_faulty lines ≡ false → find is_faulty (take n lines) ≡ None
-none_found zero lines h = refl
-none_found (suc n) [] h = refl
-none_found (suc n) (line ∷ lines) h =
-    let f = (or_parts (is_faulty line) (list_any is_faulty lines) h).0 in
-    rw f (none_found n lines (or_parts (is_faulty line) (list_any is_faulty lines) h).1)
-
-none_at_all : (lines : List (List ℕ)) → list_any is_faulty lines ≡ false → find is_faulty lines ≡ None
-none_at_all [] h = refl
-none_at_all (line ∷ lines) h =
-    let f = (or_parts (is_faulty line) (list_any is_faulty lines) h).0 in
-    rw f (none_at_all lines (or_parts (is_faulty line) (list_any is_faulty lines) h).1)
-
-none_judged : (b : Bool) (lines : List (List ℕ)) → list_any is_faulty lines ≡ false → find is_faulty (judged b lines) ≡ None
-none_judged true lines h = none_found 65536 lines h
-none_judged false lines h = none_at_all lines h
-
-neither_bound : (b x y : Bool) → (b && (x || y)) ≡ false → ((b && x) ≡ false) × ((b && y) ≡ false)
-neither_bound true x y h = or_parts x y h
-neither_bound false x y h = (refl, refl)
-
-reads_fine : (b : Bool) (octets : List ℕ) → reads_as_lines b octets ≡ true → text_fault b octets ≡ None
-reads_fine b octets h =
-    let lines = logical_lines octets in
-    let bound = b && (ltb 1048576 (length octets) || ltb 65536 (length lines)) in
-    let p = and_parts (not (list_any is_faulty lines) && is_utf8 (ended lines)) (not bound) h in
-    let q = and_parts (not (list_any is_faulty lines)) (is_utf8 (ended lines)) p.0 in
-    let k = neither_bound b (ltb 1048576 (length octets)) (ltb 65536 (length lines)) (not-true bound p.1) in
-    rw (k.0, q.1, none_judged b lines (not-true (list_any is_faulty lines) q.0), k.1) refl
-
-pub comes_after_lines : (b : Bool) (octets : List ℕ) (fault : Fault) → reads_as_lines b octets ≡ true → RefusesOnly (is_first_fault (text_fault b octets)) fault
-comes_after_lines b octets Memory h = tt
-comes_after_lines b octets (Refused r) h = rw (reads_fine b octets h) refl

@@ -5,7 +5,25 @@ use Rattle.std.proofs.lemmas.Int.{ints, by_lt_z}
 use Rattle.profile.specs.checker.Instances.{IsWithin}
 use Rattle.std.proofs.Common.{◌⊎◌, inl, inr, ◌<◌, ◌≤◌}
 use Rattle.std.proofs.lemmas.Bool.{cases_lt}
-use Rattle.profile.specs.series.Repeating.{LastsAtMost, RepeatsFrom, AreApartBelow, IsApartBelow, IsCongruent, StartsAt, ArcsMeet}
+use Rattle.profile.specs.series.Repeating.{RepeatsFrom, IsCongruent, ArcsMeet}
+
+-- no instance lasts longer than this many seconds
+abbrev pub LastsAtMost : (ℤ → ℤ → Type 0) → ℤ → Type 0
+LastsAtMost Is width = (start end : ℤ) → Is start end → end ≤ℤ (start +ℤ width)
+
+-- no instance of the one shares an instant with one of the other, where both start before a bound
+abbrev pub AreApartBelow : (ℤ → ℤ → Type 0) → (ℤ → ℤ → Type 0) → ℤ → Type 0
+AreApartBelow These Those bound =
+    (a b c d t : ℤ) → These a b → Those c d → a <ℤ bound → c <ℤ bound → IsWithin a b t → IsWithin c d t → ⊥
+
+-- no two instances of one series with different starts do
+abbrev pub IsApartBelow : (ℤ → ℤ → Type 0) → ℤ → Type 0
+IsApartBelow These bound =
+    (a b c d t : ℤ) → These a b → These c d → a ≢ c → a <ℤ bound → c <ℤ bound → IsWithin a b t → IsWithin c d t → ⊥
+
+-- each instance starts at one of these residues
+abbrev pub StartsAt : (ℤ → ℤ → Type 0) → ℕ → (ℕ → Type 0) → Type 0
+StartsAt Is m These = (start end : ℤ) → Is start end → (residue : ℕ) × These residue × IsCongruent m start (pos residue)
 
 int_eq_by : {a b : ℤ} → a ≤ℤ b → b ≤ℤ a → a ≡ b
 int_eq_by {a} {b} l m = omega (arith, ints, l, m)

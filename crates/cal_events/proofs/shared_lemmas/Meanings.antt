@@ -2,7 +2,8 @@
 -- Behind Calendar::of_object of calendar, Calendar::read of calendar, EventComponent::read of component, EventComponent::series of component, EventComponent::singles of component, EventComponent::singles_at of component and 19 more.
 use Rattle.std.proofs.Common.{◌≡◌, ◌∙◌, sym, refl, inl, inr, ℤ, pos, ◌<ℤ◌, arith}
 use Rattle.std.proofs.lemmas.Int.{ints}
-use Rattle.profile.specs.series.Zones.{Zone, Constant, Single, Pair, IsZoneOnset, IsSkipped, IsOneMeaning, Means}
+use Rattle.profile.specs.series.Zones.{Zone, Constant, Single, Pair, IsZoneOnset, IsOneMeaning, Means}
+use Rattle.cal_zones.proofs.Zones.{IsSkipped}
 use Rattle.profile.specs.series.ZoneTexts.{AreMatched}
 
 -- UTC shows the instant itself

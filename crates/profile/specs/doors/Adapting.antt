@@ -1,6 +1,6 @@
 -- An object made readable for a room: VTIMEZONEs that say more than a room reads give way to some that do the same at each time that the
 -- object names there (RFC 5545 3.6.5). All other lines stay as they are.
-use Rattle.std.specs.Prelude.{◌≡◌, ℕ, ◌⊎◌, Bool, true, false, not, List, [], filter, codes, Option, Some, None, ℤ, pos, ◌+ℤ◌, ◌-ℤ◌, ◌≤ℤ◌}
+use Rattle.std.specs.Prelude.{◌≡◌, ℕ, ◌⊎◌, Bool, true, false, not, List, [], filter, codes, Option, Some, None, Contains, ℤ, pos, ◌+ℤ◌, ◌-ℤ◌, ◌≤ℤ◌}
 use Rattle.std.specs.Int.Signed.{◌<ℤ◌}
 use Rattle.std.specs.List.{list_any}
 use Rattle.std.specs.Str.{bytes_eq}
@@ -9,7 +9,7 @@ use Rattle.profile.specs.text.Objects.{IsObject}
 use Rattle.profile.specs.text.Trees.{Tree, tree_name, tree_own, tree_inside}
 use Rattle.profile.specs.series.Zones.{Zone, Onset}
 use Rattle.profile.specs.series.ZoneTexts.{SaysZone, is_part, parts_by}
-use Rattle.profile.specs.series.GeneralZones.{Run, IsGeneralOnset, IsSameFrom, IsSameBetween}
+use Rattle.profile.specs.series.GeneralZones.{Run, AtInstant, IsRunOnset, IsGeneralOnset, IsSameFrom, IsSameBetween}
 use Rattle.profile.specs.series.GeneralZoneTexts.{SaysGeneralZone}
 use Rattle.profile.specs.events.ZonedTimes.{zone_named, SaysZoneOf}
 use Rattle.profile.specs.doors.Uses.{NamesZone, BeginsBy, EndsBy}
@@ -45,14 +45,31 @@ times_end = pos 2_147_483_647
 abbrev pub IsOverAt : List Run → ℤ → Type 0
 IsOverAt zone to = (onset : Onset) → IsGeneralOnset zone onset → onset.instant <ℤ times_end → onset.instant ≤ℤ to
 
+-- a run states something of an instant: an onset then, or that its rule ends then (RFC 5545 3.3.10, UNTIL)
+pub data StatesAt (run : Run) (instant : ℤ) : Type 0 where
+  by_onset : (onset : Onset) → IsRunOnset run onset → onset.instant ≡ instant → StatesAt run instant
+  by_until : run.end ≡ AtInstant instant → StatesAt run instant
+
+-- it states something of 2036 or later, before times in 32 bits end
+abbrev pub IsStatedLate : Run → Type 0
+IsStatedLate run = (instant : ℤ) × StatesAt run instant × (tables_end ≤ℤ instant) × (instant <ℤ times_end)
+
+-- a run of a zone does
+abbrev pub ReachesTablesEnd : List Run → Type 0
+ReachesTablesEnd zone = (run : Run) × Contains zone run × IsStatedLate run
+
+-- the table of a zone reaches 2036, and ends by this instant
+abbrev pub IsTableEnd : List Run → ℤ → Type 0
+IsTableEnd zone to = ReachesTablesEnd zone × (tables_end ≤ℤ to) × IsOverAt zone to
+
 -- a zone does the same as one in general for local times from the first on, which end by the last, if they end: always, or as long as they do; or,
--- where it goes on beyond what is stated, up to the end of the onsets before 2038-01-19T03:14:07Z, which is in 2036 or later. That it
--- then goes on by the same rules is this profile's choice: the tables of the programs end there, their zones don't
+-- where it goes on beyond what is stated, up to the end of the onsets before 2038-01-19T03:14:07Z, of which something is stated from 2036 on.
+-- That it then goes on by the same rules is this profile's choice: the tables of the programs end there, their zones don't
 pub data IsSameFor (zone : List Run) (other : Zone) (goes_on : Bool) (first : ℤ) (last : Option ℤ) : Type 0 where
   always : goes_on ≡ false → IsSameFrom zone other (first -ℤ pos 86_399) → IsSameFor zone other goes_on first last
   as_long : (end : ℤ) → goes_on ≡ false → last ≡ Some end → IsSameBetween zone other (first -ℤ pos 86_399) (end +ℤ pos 86_399)
       → IsSameFor zone other goes_on first last
-  beyond : (to : ℤ) → goes_on ≡ true → tables_end ≤ℤ to → IsOverAt zone to → IsSameBetween zone other (first -ℤ pos 86_399) to
+  beyond : (to : ℤ) → goes_on ≡ true → IsTableEnd zone to → IsSameBetween zone other (first -ℤ pos 86_399) to
       → IsSameFor zone other goes_on first last
 
 -- the zone does the same as what the name means at the door, for each time that the object names there, and for each that follows from these

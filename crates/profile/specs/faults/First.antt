@@ -31,8 +31,3 @@ text_fault bounded octets =
 abbrev pub is_number : Option ℕ → ℕ → Bool
 is_number None number = false
 is_number (Some first) number = first == number
-
--- if the lines are refused, this is their number: what else is wrong comes after
-abbrev pub is_first_fault : Option ℕ → ℕ → Bool
-is_first_fault None number = true
-is_first_fault (Some first) number = first == number

@@ -144,12 +144,6 @@ MeansBy At Is local instant = IsShownFirstBy At local instant ⊎ IsSkippedBy At
 abbrev pub Shows : Zone → ℤ → ℤ → Type 0
 Shows zone instant local = ShowsBy (IsOffsetAt zone) instant local
 
-abbrev pub IsShownFirst : Zone → ℤ → ℤ → Type 0
-IsShownFirst zone local instant = IsShownFirstBy (IsOffsetAt zone) local instant
-
-abbrev pub IsSkipped : Zone → ℤ → ℤ → Type 0
-IsSkipped zone local instant = IsSkippedBy (IsOffsetAt zone) (IsZoneOnset zone) local instant
-
 abbrev pub Means : Zone → ℤ → ℤ → Type 0
 Means zone local instant = MeansBy (IsOffsetAt zone) (IsZoneOnset zone) local instant
 
