@@ -573,6 +573,18 @@ def stopped_sendmail(cases, parent):
     stopped(cases, parent, BY_SENDMAIL, KILLS // 2, way, subjects)
 
 
+def no_maildir(cases, parent):
+    """Before the first mail there is no maildir: that is said in words, and the next run takes what has come."""
+    post = Post(parent)
+    shutil.rmtree(post.arriving)
+    ran = subprocess.run(post.taking(), stdin=subprocess.DEVNULL, stdout=subprocess.PIPE, stderr=subprocess.PIPE, text=True)
+    said = f"roombox_mail: {post.arriving} is no maildir yet: the mail server makes it when the first mail comes\n"
+    cases.holds("no maildir yet", (ran.returncode, ran.stdout, ran.stderr), (1, "", said))
+    (post.arriving / "new").mkdir(parents=True)
+    post.deliver(mail(request("first")))
+    cases.holds("a maildir with the first mail", (post.run(), len(post.objects())), ([0, 0, 0], 1))
+
+
 def unstopped(cases, parent):
     """How long so many mails take, and that a second run has nothing to do."""
     post = Post(parent)
@@ -590,7 +602,7 @@ def unstopped(cases, parent):
 
 def main():
     cases = Cases()
-    parts = [producers, in_its_words, again, in_order, no_invitations, several_objects, no_objects, methods, charsets, told, one_notice, not_told, odd_heads, organisers, by_sendmail, side_by_side, stopped_at_each_step,
+    parts = [no_maildir, producers, in_its_words, again, in_order, no_invitations, several_objects, no_objects, methods, charsets, told, one_notice, not_told, odd_heads, organisers, by_sendmail, side_by_side, stopped_at_each_step,
              unstopped, stopped_maildir, stopped_sendmail]
     where = sys.argv[2] if len(sys.argv) > 2 else MEMORY if os.access(MEMORY, os.W_OK) else None
     with tempfile.TemporaryDirectory(dir=where) as parent:

@@ -84,6 +84,8 @@ def fresh_mails(box, paths, counts):
 
 def take(box, maildir):
     """Takes in all new mails, and says how many of which kind they were."""
+    if not (maildir / "new").is_dir():
+        raise Fault(f"{maildir} is no maildir yet: the mail server makes it when the first mail comes")
     counts = Counter()
     (maildir / "cur").mkdir(exist_ok=True)
     for paths in batches(new_mails(maildir)):
