@@ -1,5 +1,5 @@
 -- What a door takes of its reader at once.
-use Rattle.std.specs.Prelude.{◌≡◌, ◌<◌, ℕ, Bool, true, if◌then◌else◌, List, ◌++◌, length, nat_lt, Option, OnSome}
+use Rattle.std.specs.Prelude.{◌≡◌, ◌<◌, ℕ, Bool, true, ◌||◌, ◌==◌, if◌then◌else◌, List, [], ◌∷◌, ◌++◌, length, nat_lt, Option, OnSome}
 use Rattle.std.specs.Io.KnownBytes.{Consumes, IsAtEnd}
 use Rattle.ical_lines.specs.Cut.{fresh}
 use Rattle.ical_lines.specs.declared.object_end.Cutter.{Cutter}
@@ -24,6 +24,11 @@ pub record TakesSome (old new : Option (List ℕ)) (before after : List ℕ) : T
   pub consumed : Consumes old new taken
   pub added : after ≡ before ++ taken
   pub end : length taken ≡ 0 → OnSome old (IsAtEnd new)
+
+-- what an object may begin with: BEGIN in any case, the end of an empty line before it, or a byte order mark; and nothing at all
+abbrev pub may_begin_object : List ℕ → Bool
+may_begin_object [] = true
+may_begin_object (first ∷ rest) = first == 66 || first == 98 || first == 13 || first == 10 || first == 239
 
 abbrev pub piece_after : ℕ → Bool → Piece
 piece_after count ended = if ended then Ended else (if nat_lt 0 count then Goes else End)

@@ -32,6 +32,7 @@ pub(crate) fn take_object<R: Input>(
 ) -> Result<bool, DoorFault>
     requires new { cutter.old ≡ fresh }
     requires nothing { length octets.old.items ≡ 0 }
+    ensures long { IfOk result (λ whole. whole ≡ false → 1_048_576 < length octets.new.items) }
     ensures takes { OnOk result (TakesSome (R.remaining reader.old) (R.remaining reader.new) octets.old.items octets.new.items) }
     ensures cause { IfErr result (IsCauseOf (R.has_failed reader.new)) }
     ensures mark { OnOk result (R.has_failed reader.new ≡ R.has_failed reader.old) }

@@ -1,8 +1,8 @@
 //! The preamble of a stream, up to its empty line: it goes through the door as it is.
 
-ghost use Rattle.std.specs.Prelude.{◌≡◌, ◌<◌, ◌≤◌, length, IfErr, IfOk, OnErr, OnOk};
+ghost use Rattle.std.specs.Prelude.{◌≡◌, ◌<◌, ◌≤◌, length, not, IfErr, IfOk, OnErr, OnOk};
 ghost use Rattle.std.specs.Io.KnownBytes.{Keeps};
-ghost use Rattle.sched_doors.specs.Pieces.{KeepsUnlessRead, IsCauseOf, TakesSome};
+ghost use Rattle.sched_doors.specs.Pieces.{KeepsUnlessRead, IsCauseOf, TakesSome, may_begin_object};
 
 use crate::fault::DoorFault;
 use crate::piece::PIECE;
@@ -28,6 +28,7 @@ pub(crate) struct Scanned {
 
 /// Whether a preamble comes first: what is read begins with none of the octets that an object or an empty line begins with.
 pub(crate) fn begins_with_preamble<R: Input>(reader: &mut R) -> Result<bool, DoorFault>
+    ensures comes { IfOk result (λ comes. comes ≡ not (may_begin_object (R.lent reader.new))) }
     ensures keeps { Keeps (R.remaining reader.old) (R.remaining reader.new) }
     ensures cause { IfErr result (IsCauseOf (R.has_failed reader.new)) }
     ensures mark { OnOk result (R.has_failed reader.new ≡ R.has_failed reader.old) }
