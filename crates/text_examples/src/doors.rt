@@ -78,6 +78,8 @@ fn answers_of(
 ///
 ///     at NAME INSTANT       the offset at that instant in the zone of that name
 ///     means NAME LOCAL      the instant that a local time means there
+///     daylight NAME         TZOFFSETTO of the part DAYLIGHT of that zone, as it is written
+///     zones                 how many VTIMEZONEs there are
 ///     goes on               the zones that go on beyond what is stated
 fn step_answer(
     alloc: Global,
@@ -86,8 +88,11 @@ fn step_answer(
     adapted: &Adapted,
 ) -> Result<String, NoAnswer> {
     let (question, rest) = first_word(step);
-    if question == "goes" {
-        return going_on(alloc, adapted);
+    match question {
+        "goes" => return going_on(alloc, adapted),
+        "zones" => return Ok(count_zones(after).to_string(alloc)?),
+        "daylight" => return daylight_of(alloc, after, rest),
+        _ => {}
     }
     let (name, input) = first_word(rest);
     let zone = zone_named(alloc, after, name)?;
@@ -100,9 +105,49 @@ fn step_answer(
 
 /// The zone of the first VTIMEZONE of a name that has no escapes.
 fn zone_named(alloc: Global, object: &Component, name: &str) -> Result<Zone, NoAnswer> {
+    match component_named(object, name) {
+        Some(component) => Ok(Zone::read(alloc, component)?),
+        None => Err(NoAnswer::Unreadable),
+    }
+}
+
+fn component_named<'c, 'a>(object: &'c Component<'a>, name: &str) -> Option<&'c Component<'a>> {
     for child in object.children() {
         if child.is_named("VTIMEZONE") && is_called(child, name) {
-            return Ok(Zone::read(alloc, child)?);
+            return Some(child);
+        }
+    }
+    None
+}
+
+fn count_zones(object: &Component) -> usize {
+    let mut count: usize = 0;
+    for child in object.children() {
+        if child.is_named("VTIMEZONE") {
+            count = count.saturating_add(1);
+        }
+    }
+    count
+}
+
+/// TZOFFSETTO of the part DAYLIGHT of a zone.
+fn daylight_of(alloc: Global, object: &Component, name: &str) -> Result<String, NoAnswer> {
+    let Some(zone) = component_named(object, name) else {
+        return Err(NoAnswer::Unreadable);
+    };
+    for part in zone.children() {
+        if part.is_named("DAYLIGHT") {
+            return offset_of(alloc, part);
+        }
+    }
+    Err(NoAnswer::Unreadable)
+}
+
+/// TZOFFSETTO of a part, as it is written.
+fn offset_of(alloc: Global, part: &Component) -> Result<String, NoAnswer> {
+    for line in part.lines() {
+        if line.is_named("TZOFFSETTO") {
+            return Ok(String::from_str(alloc, line.value())?);
         }
     }
     Err(NoAnswer::Unreadable)
