@@ -9,6 +9,7 @@ pub mod examples
 pub mod instances_lemmas
 pub mod instants_lemmas
 pub mod meeting_components_lemmas
+pub mod neighbours_lemmas
 pub mod occurrences_lemmas
 pub mod reading_lemmas
 pub mod regular_lemmas

@@ -14,6 +14,7 @@ pub mod MeetingComponents
 pub mod OneMeeting
 pub mod Event
 pub mod Instants
+pub mod Neighbours
 pub mod RuleDays
 pub mod Instances
 pub mod PlaceOrder

@@ -1,5 +1,5 @@
 //! A calendar while its VEVENTs are read, one after another.
-ghost use Rattle.std.specs.Prelude.{ℕ, List, [], ◌∷◌, ◌++◌, ◌≡◌, ◌≢◌, ◌<◌, map, filter, length, AllPairs, is_some, ◌&&◌, true, IfOk, IfErr, OnOk, MatchBool};
+ghost use Rattle.std.specs.Prelude.{ℕ, List, [], ◌∷◌, ◌++◌, ◌≡◌, ◌≢◌, ◌<◌, map, filter, length, AllPairs, is_some, ◌&&◌, true, IfOk, IfErr, OnOk};
 ghost use Rattle.ical_lines.specs.Fault.{RefusesOnly, RefusesBy};
 ghost use Rattle.ical_values.specs.Octets.{address_octets};
 ghost use Rattle.ical_tree.specs.Tree.{tree_of};
@@ -20,6 +20,7 @@ use crate::calendar::{Calendar, PlacedSingle};
 use crate::component::{EventComponent, PartStat};
 use crate::entries::Entries;
 use crate::instance::InstanceKey;
+use crate::neighbours::has_equal_neighbours;
 use crate::reading::{read_placed, read_room_zone};
 use crate::series::Series;
 use crate::single_starts::single_starts;
@@ -281,18 +282,6 @@ fn keys_of_overrides(alloc: Global, entries: &Entries) -> Result<Vec<InstanceKey
     }
     keys.sort_unstable();
     Ok(keys)
-}
-
-fn has_equal_neighbours(sorted: &[InstanceKey<'_>]) -> bool
-    requires { AreInOrder sorted.now }
-    ensures { MatchBool result (AllPairs ◌≢◌ (map key_of sorted.now) → ⊥) (AllPairs ◌≢◌ (map key_of sorted.now)) }
-{
-    for next in 1..sorted.len() {
-        if sorted[next - 1] == sorted[next] {
-            return true;
-        }
-    }
-    false
 }
 
 /// Whether a single is an override's, or no override replaces its start.

@@ -1,10 +1,9 @@
 //! Instants in order, each once, among which one is looked for by binary search.
 
 ghost use Rattle.std.specs.Prelude.{◌≡◌, ◌≢◌, ◌↔◌, ◌<ℤ◌, ℤ, AllPairs, Contains, IsTrue, MatchBool, IfOk};
-ghost use Rattle.std.specs.List.Sorted.{IsSorted};
-ghost use Rattle.std.specs.Ordering.{int_cmp};
 ghost use Rattle.cal_events.specs.Instants.{IsFirstFrom};
 
+use crate::neighbours::has_equal_neighbours;
 use std::alloc::{AllocError, Global};
 use std::marker::Model;
 
@@ -71,18 +70,6 @@ pub(crate) fn has_twins(instants: Vec<i64>) -> bool
     let mut sorted = instants;
     sorted.sort_unstable();
     has_equal_neighbours(&sorted)
-}
-
-fn has_equal_neighbours(sorted: &[i64]) -> bool
-    requires { IsSorted int_cmp sorted.now }
-    ensures { MatchBool result (AllPairs ◌≢◌ sorted.now → ⊥) (AllPairs ◌≢◌ sorted.now) }
-{
-    for next in 1..sorted.len() {
-        if sorted[next - 1] == sorted[next] {
-            return true;
-        }
-    }
-    false
 }
 
 /// A copy of the instants. It fails only when out of memory.

@@ -14,6 +14,7 @@ mod instances;
 mod instants;
 mod meeting_components;
 mod method;
+mod neighbours;
 mod occurrences;
 mod overlapping;
 mod own_instances;

@@ -1,5 +1,5 @@
 -- Keys of instances in order: equal ones are neighbours, and one is looked for by binary search.
--- Cited by Draft::into_calendar, has_equal_neighbours, is_shown, shown.
+-- Cited by Draft::into_calendar, is_shown, shown.
 use Rattle.std.proofs.Common.{◌≡◌, ◌≢◌, ℕ, [], ◌∷◌, ◌+◌, ◌<◌, ◌≤◌, ◌-◌, true, false, List, map, length, get_or, subst, sym, refl, ap, ◌∙◌, inl, inr, ◌⊎◌, arith, Ordering, ℤ}
 use Rattle.std.specs.Prelude.{AllPairs, Result, Ok, Err, Bool, not, ◌&&◌}
 use Rattle.std.specs.declared.cmp.Ordering.TheVariants.{Less, Equal, Greater}
@@ -20,6 +20,7 @@ use Rattle.std.proofs.lemmas.Slice.Eq.{bytes_eq-Decides}
 use Rattle.std.proofs.lemmas.Bool.Decides.{Decides-int_eq}
 use Rattle.std.proofs.lemmas.List.{get_or-map, get_or_default, length-map}
 use Rattle.cal_events.specs.Calendar.{key_of}
+use Rattle.cal_events.specs.Neighbours.{HaveEqual, HaveNoEqual}
 use Rattle.cal_events.specs.declared.instance.InstanceKey.{InstanceKey}
 use Rattle.cal_events.proofs.shared_lemmas.Distinct.{pairs_permuted}
 
@@ -121,27 +122,12 @@ key_same a b e =
     let s = (Decides-int_eq a.slot b.slot).1 (ap (λ (k : Key). k.slot) e) in
     ap (λ x. x && (bytes_eq a.uid.now b.uid.now && int_eq a.slot b.slot)) o ∙ ap (λ x. x && int_eq a.slot b.slot) u ∙ s
 
-module _ (ps : List InstanceKey) (next : ℕ) (first : 1 ≤ next) (within : next < length ps) where
-  before : next - 1 + 1 ≡ next
-  before = omega (arith, first)
+-- keys side by side, in order: two equal ones, or none
+pub twins_of : (ps : List InstanceKey) → HaveEqual is_same ps → AllPairs ◌≢◌ (map key_of ps) → ⊥
+twins_of ps (k, w, e) = let d = some_of ps (omega (arith, w)) in two_equal ps k d w (same_key (get_or ps k d) (get_or ps (k + 1) d) (e d))
 
-  pub equal_there : (d e : InstanceKey) → true ≡ is_same (get_or ps (next - 1) d) (get_or ps next e) → AllPairs ◌≢◌ (map key_of ps) → ⊥
-  equal_there d e h =
-      two_equal ps (next - 1) d (omega (arith, first, within))
-      (same_key (get_or ps (next - 1) d) (get_or ps next e) (sym h) ∙ ap key_of (get_or_default ps next e d within) ∙ ap (λ k. key_of (get_or ps k d)) (sym before))
-
-  pub one_further : AllAdjacentBelow (λ p q. key_of p ≢ key_of q) ps next → (d e : InstanceKey) → false ≡ is_same (get_or ps (next - 1) d) (get_or ps next e)
-      → AllAdjacentBelow (λ p q. key_of p ≢ key_of q) ps (next + 1)
-  one_further h d e differ k x w same =
-      elim (cases_lt (k + 1) next) [
-        | inl below ↦ h k x below same
-        | inr from ↦
-            let at : k + 1 ≡ next = omega (arith, w, from) in
-            let at_k : k ≡ next - 1 = omega (arith, w, from) in
-            let a : get_or ps k x ≡ get_or ps (next - 1) d = ap (λ j. get_or ps j x) at_k ∙ get_or_default ps (next - 1) x d (omega (arith, first, within)) in
-            let b : get_or ps (k + 1) x ≡ get_or ps next e = ap (λ j. get_or ps j x) at ∙ get_or_default ps next x e within in
-            true≢false (sym (key_same (get_or ps (next - 1) d) (get_or ps next e) (ap key_of (sym a) ∙ same ∙ ap key_of b)) ∙ sym differ)
-      ]
+pub no_twins_of : (ps : List InstanceKey) → IsSortedByKey key_of key_cmp ps → HaveNoEqual is_same ps → AllPairs ◌≢◌ (map key_of ps)
+no_twins_of ps up differ = none_equal ps up (λ k d w e. true≢false (sym (key_same (get_or ps k d) (get_or ps (k + 1) d) e) ∙ differ k d w))
 
 -- what a binary search says
 pub missing : (ps : List InstanceKey) (own : Key) (r : Result ℕ ℕ) → IsSortedByKey key_of key_cmp ps → IsSearchInRange r (length ps) → IsBinarySearchResult (λ p. key_cmp (key_of p) own) ps r

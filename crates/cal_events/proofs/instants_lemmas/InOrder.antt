@@ -1,6 +1,6 @@
 -- Instants in order, and what a binary search finds among them.
--- Cited by Instants::first_from, Instants::has, Instants::of, has_equal_neighbours, has_twins.
-use Rattle.std.proofs.Common.{◌≡◌, ◌≢◌, ◌∙◌, ℕ, Bool, ◌+◌, ◌-◌, ◌<◌, ◌≤◌, true, false, List, length, get_or, refl, sym, ap, subst, arith, inl, inr, ℤ, ◌<ℤ◌, ◌≤ℤ◌}
+-- Cited by Instants::first_from, Instants::has, Instants::of, has_twins.
+use Rattle.std.proofs.Common.{◌≡◌, ◌≢◌, ◌∙◌, ℕ, Bool, ◌+◌, ◌-◌, ◌<◌, ◌≤◌, true, false, List, length, get_or, refl, sym, ap, subst, arith, inl, inr, ℤ, pos, ◌<ℤ◌, ◌≤ℤ◌}
 use Rattle.std.specs.Prelude.{AllPairs, Contains, Some, None, int_lt, IsTrue, ◌↔◌, Result, Ok, Err, MatchBool}
 use Rattle.std.specs.declared.cmp.Ordering.{Ordering}
 use Rattle.std.specs.declared.cmp.Ordering.TheVariants.{Less, Equal, Greater}
@@ -9,7 +9,7 @@ use Rattle.std.specs.Result.{is_ok}
 use Rattle.std.specs.List.{AllAdjacentBelow, dedup}
 use Rattle.std.specs.List.Sorted.{IsPermutation, IsStrictlySortedBy, IsSorted, IsSearchInRange, IsBinarySearchResult, IsPartitionedBy, IsPartitionPoint}
 use Rattle.std.specs.FinMap.{int_cmp-IsAntisymmetric}
-use Rattle.std.proofs.lemmas.Bool.{cases_eq, cases_lt, true≢false, false≢true}
+use Rattle.std.proofs.lemmas.Bool.{cases_lt, true≢false, false≢true}
 use Rattle.std.proofs.lemmas.Bool.Decides.{Decides-int_eq}
 use Rattle.std.proofs.lemmas.Cmp.{int_ranked, int_cmp_total, int_eq_equiv}
 use Rattle.std.proofs.lemmas.List.Kept.{Contains-dedup, Contains-from_dedup, IsStrictlySortedBy-dedup}
@@ -19,6 +19,7 @@ use Rattle.std.proofs.lemmas.List.Sorted.{Contains-permutation, IsPermutation-sy
 use Rattle.std.proofs.lemmas.Map.Keys.{Less-from_sorted}
 use Rattle.cal_events.proofs.shared_lemmas.Distinct.{pairs_permuted}
 use Rattle.cal_events.specs.Instants.{IsFirstFrom}
+use Rattle.cal_events.specs.Neighbours.{HaveEqual, HaveNoEqual}
 
 not_less : (x : ℤ) → int_cmp x x ≡ Less → ⊥
 not_less x e = let l : x <ℤ x = int_ranked x x Less (sym e) in absurd (omega (arith, ints, l))
@@ -69,24 +70,22 @@ module _ (xs : List ℤ) (up : IsSorted int_cmp xs) where
     none_there le = λ t c a. before c.0 t (omega (arith, c.1, le)) c.1 c.2 a
 
   -- where neighbours differ all do
-  pub all_differ : AllAdjacentBelow ◌≢◌ xs (length xs) → AllPairs ◌≢◌ xs
+  all_differ : AllAdjacentBelow ◌≢◌ xs (length xs) → AllPairs ◌≢◌ xs
   all_differ apart i j d lt w e =
       let step = far i (i + 1) d (omega arith) (omega (arith, lt, w)) in
       let rest = far (i + 1) j d (omega (arith, lt)) w in
       apart i d (omega (arith, lt, w)) (omega (arith, ints, step, rest, e))
 
-pub twin_neighbours : (xs : List ℤ) (next : ℕ) (d c : ℤ) → 1 ≤ next → next < length xs → get_or xs (next - 1) d ≡ get_or xs next c → AllPairs ◌≢◌ xs → ⊥
-twin_neighbours xs next d c low w e differ =
-    differ (next - 1) next c (omega (arith, low)) w (get_or_default xs (next - 1) c d (omega (arith, low, w)) ∙ e)
+-- two of one instant are side by side
+twins_side : (xs : List ℤ) → HaveEqual int_eq xs → AllPairs ◌≢◌ xs → ⊥
+twins_side xs (k, w, e) differ = differ k (k + 1) (pos 0) (omega arith) w ((Decides-int_eq _ _).0 (e (pos 0)))
 
-pub one_more_apart : (xs : List ℤ) (next : ℕ) (d c : ℤ) → 1 ≤ next → next < length xs → AllAdjacentBelow ◌≢◌ xs next → (get_or xs (next - 1) d ≡ get_or xs next c → ⊥) → AllAdjacentBelow ◌≢◌ xs (next + 1)
-one_more_apart xs next d c low w h apart k e v same =
-    elim (cases_eq (k + 1) next) [
-      | inl is ↦
-          let at : k ≡ next - 1 = omega (arith, is) in
-          apart (get_or_default xs (next - 1) d e (omega (arith, low, w)) ∙ sym (ap (λ n. get_or xs n e) at) ∙ same ∙ ap (λ n. get_or xs n e) is ∙ get_or_default xs next e c w)
-      | inr other ↦ h k e (omega (arith, v, other)) same
-    ]
+none_side : (xs : List ℤ) → IsSorted int_cmp xs → HaveNoEqual int_eq xs → AllPairs ◌≢◌ xs
+none_side xs up differ = all_differ xs up (λ k d w e. true≢false (sym ((Decides-int_eq _ _).1 e) ∙ differ k d w))
+
+pub twins_found : (xs : List ℤ) → IsSorted int_cmp xs → (found : Bool) → MatchBool found (HaveEqual int_eq xs) (HaveNoEqual int_eq xs) → MatchBool found (AllPairs ◌≢◌ xs → ⊥) (AllPairs ◌≢◌ xs)
+twins_found xs up true h = twins_side xs h
+twins_found xs up false h = none_side xs up h
 
 -- what is so of neighbours after a sort is so of all
 pub twins_moved : (xs sorted : List ℤ) → IsPermutation xs sorted → (found : Bool) → MatchBool found (AllPairs ◌≢◌ sorted → ⊥) (AllPairs ◌≢◌ sorted) → MatchBool found (AllPairs ◌≢◌ xs → ⊥) (AllPairs ◌≢◌ xs)

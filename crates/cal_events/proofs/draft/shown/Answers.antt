@@ -2,21 +2,22 @@ use Rattle.std.proofs.Common.{◌∙◌, List, refl, map, sym, subst}
 use Rattle.std.specs.List.Sorted.{IsPermutation}
 use Rattle.std.proofs.lemmas.List.Sorted.{IsPermutation-sym}
 use Rattle.cal_events.specs.Calendar.{key_of}
-use Rattle.cal_events.specs.Draft.{override_keys}
+use Rattle.cal_events.specs.Draft.{AreInOrder, override_keys}
 use Rattle.cal_events.specs.Masters.{AreSeriesOf}
 use Rattle.cal_events.specs.declared.instance.InstanceKey.{InstanceKey}
-use Rattle.cal_events.proofs.draft_lemmas.KeyLemmas.{pairs_permutation}
+use Rattle.cal_events.proofs.draft_lemmas.KeyLemmas.{twins_of, no_twins_of, pairs_permutation}
 use Rattle.cal_events.proofs.draft.shown.Goals as goal
 
 pub returns-then-has_equal_neighbours-clause-fault : goal.returns-then-has_equal_neighbours-clause-fault
 returns-then-has_equal_neighbours-clause-fault c =
     let same = subst (λ (l : List InstanceKey). IsPermutation (override_keys c.args.entries.now) (map key_of l)) (sym c.deref.ensures.value) c.in_ok-overrides.ensures.0 in
-    (refl, λ differ. c.if-has_equal_neighbours.ensures (pairs_permutation (override_keys c.args.entries.now) (map key_of c.deref.result.now) same differ))
+    (refl, λ differ. twins_of c.deref.result.now c.if-has_equal_neighbours.ensures (pairs_permutation (override_keys c.args.entries.now) (map key_of c.deref.result.now) same differ))
 
 pub returns-clause-differ : goal.returns-clause-differ
 returns-clause-differ c =
     let same = subst (λ (l : List InstanceKey). IsPermutation (override_keys c.args.entries.now) (map key_of l)) (sym c.deref.ensures.value) c.in_ok-overrides.ensures.0 in
-    pairs_permutation (map key_of c.deref.result.now) (override_keys c.args.entries.now) (IsPermutation-sym _ _ same) c.if-has_equal_neighbours.ensures
+    pairs_permutation (map key_of c.deref.result.now) (override_keys c.args.entries.now) (IsPermutation-sym _ _ same)
+    (no_twins_of c.deref.result.now (subst AreInOrder (sym c.deref.ensures.value) c.in_ok-overrides.ensures.1) c.if-has_equal_neighbours.ensures)
 
 pub returns-clause-shown : goal.returns-clause-shown
 returns-clause-shown c = record {

@@ -6,9 +6,9 @@ use Rattle.ical_values.proofs.Exits.{err_exit}
 use Rattle.profile.specs.events.Confirmed.{Confirmed}
 use Rattle.cal_events.specs.Calendar.{key_of, named_instance}
 use Rattle.cal_events.specs.Series.{series_said}
-use Rattle.cal_events.specs.Draft.{master_keys, IsTwoOf}
+use Rattle.cal_events.specs.Draft.{AreInOrder, master_keys, IsTwoOf}
 use Rattle.cal_events.specs.declared.instance.InstanceKey.{InstanceKey}
-use Rattle.cal_events.proofs.draft_lemmas.KeyLemmas.{pairs_permutation}
+use Rattle.cal_events.proofs.draft_lemmas.KeyLemmas.{twins_of, no_twins_of, pairs_permutation}
 use Rattle.cal_events.proofs.shared_lemmas.ZonedLemmas.{weaker_fault}
 use Rattle.cal_events.proofs.draft_lemmas.CalendarKeys.{own_keys}
 use Rattle.cal_events.proofs.shared_lemmas.DraftKeys.{masters_there, there_masters, overrides_there, there_overrides}
@@ -20,7 +20,7 @@ returns-then-has_equal_neighbours-clause-fault c room events d =
     let entries = c.args.self.entries in
     let sorted = c.in_ok-keys_of_masters.ensures.0 in
     let same = subst (λ (l : List InstanceKey). IsPermutation (master_keys entries) (map key_of l)) (sym c.deref.ensures.value) sorted in
-    inl (refl, λ differ. c.if-has_equal_neighbours.ensures (pairs_permutation (master_keys entries) (map key_of c.deref.result.now) same (there_masters entries events d.entries differ)))
+    inl (refl, λ differ. twins_of c.deref.result.now c.if-has_equal_neighbours.ensures (pairs_permutation (master_keys entries) (map key_of c.deref.result.now) same (there_masters entries events d.entries differ)))
 
 pub shown-requires : goal.shown-requires
 shown-requires c =
@@ -45,7 +45,7 @@ invariant_of-result c =
     let r = c.requires in
     let sorted = c.in_ok-keys_of_masters.ensures.0 in
     let same = subst (λ (l : List InstanceKey). IsPermutation (master_keys entries) (map key_of l)) (sym c.deref.ensures.value) sorted in
-    let masters = masters_there entries r.1 r.2.entries (pairs_permutation (map key_of c.deref.result.now) (master_keys entries) (IsPermutation-sym _ _ same) c.if-has_equal_neighbours.ensures) in
+    let masters = masters_there entries r.1 r.2.entries (pairs_permutation (map key_of c.deref.result.now) (master_keys entries) (IsPermutation-sym _ _ same) (no_twins_of c.deref.result.now (subst AreInOrder (sym c.deref.ensures.value) c.in_ok-keys_of_masters.ensures.1) c.if-has_equal_neighbours.ensures)) in
     let overrides = overrides_there entries r.1 r.2.entries c.in_ok-singles.ensures.differ in
     let shown = c.in_ok-singles.ensures.shown in
     let are = confirmed_of r.0 r.1 c.args.self r.2 left shown c.in_ok-singles.series.items c.in_ok-singles.ensures.ruled in
@@ -60,7 +60,7 @@ returns-clause-masters c room events d =
     let entries = c.args.self.entries in
     let sorted = c.in_ok-keys_of_masters.ensures.0 in
     let same = subst (λ (l : List InstanceKey). IsPermutation (master_keys entries) (map key_of l)) (sym c.deref.ensures.value) sorted in (
-      masters_there entries events d.entries (pairs_permutation (map key_of c.deref.result.now) (master_keys entries) (IsPermutation-sym _ _ same) c.if-has_equal_neighbours.ensures),
+      masters_there entries events d.entries (pairs_permutation (map key_of c.deref.result.now) (master_keys entries) (IsPermutation-sym _ _ same) (no_twins_of c.deref.result.now (subst AreInOrder (sym c.deref.ensures.value) c.in_ok-keys_of_masters.ensures.1) c.if-has_equal_neighbours.ensures)),
       overrides_there entries events d.entries c.in_ok-singles.ensures.differ,
     )
 
