@@ -3,7 +3,7 @@ use Rattle.std.proofs.Common.{◌≡◌, ◌≢◌, ◌∙◌, ℕ, zero, ◌+�
 use Rattle.std.specs.Prelude.{Contains, AllPairs, ◌↔◌}
 use Rattle.std.specs.Int.{int_max, int_min}
 use Rattle.std.proofs.lemmas.Int.{ints}
-use Rattle.std.proofs.lemmas.List.{append_assoc, append-nil, take-append-drop, take_more, drop_more, length-map, get_or-map}
+use Rattle.std.proofs.lemmas.List.{append_assoc, take-append-drop, take_more, drop_more, length-map, get_or-map}
 use Rattle.std.proofs.lemmas.List.Elements.{Contains-append_left, Contains-append_right, Contains-append_cases, Contains-push, Contains-push_cases}
 use Rattle.profile.specs.checker.Instances.{Instance}
 use Rattle.profile.specs.checker.Agendas.{IsInSpan}
@@ -113,10 +113,6 @@ module _ (from until : ℤ) where
             (λ a b c same. subst (λ (x : Instance). a.key ≢ x.key) (sym same) (across (λ (x y : Instance). x.key ≢ y.key) done rest a one keys c))
             sofar.gathered kept);
       }
-
-  pub all_sofar : (all left found : List Instance) → left ≡ [] → AreSofar all left found → AreAllInSpan (Contains all) from until found
-  all_sofar all left found none sofar =
-      subst (λ l. AreAllInSpan (Contains l) from until found) (sym (sofar.is ∙ ap (λ l. sofar.done ++ l) none ∙ append-nil sofar.done)) sofar.gathered
 
   -- ---- series
 

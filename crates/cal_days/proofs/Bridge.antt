@@ -98,12 +98,6 @@ date_found epoch d number e low h =
     let both = date_of_jiff d.year d.month d.day (d.year_in, d.month_in, d.day_in) first in
     (first, both.0, both.1 ∙ same)
 
--- jiff has the dates of the years 1 to 9999 that the definitions have
-pub date_to_jiff : (year : ℤ) (month day : ℕ) → pos 1 ≤ℤ year → year ≤ℤ pos 9999 → jiff.IsDate year (pos month) (pos day) ↔ IsDate (unsigned_abs year) month day
-date_to_jiff (pos n) month day low high =
-    (λ h. omega (arith, signed_arith), λ h. omega (arith, signed_arith))
-date_to_jiff (negsuc n) month day low high = absurd (omega (arith, signed_arith))
-
 -- and their numbers are jiff's
 pub number_of_jiff : (d : Date) (year : ℤ) (month day : ℕ) → pos 1 ≤ℤ year → IsYmd year (pos month) (pos day) d → epoch_day d ≡ number_of_day year month day
 number_of_jiff d year month day low h =

@@ -23,9 +23,6 @@ module _ {X Y : Type 0} (before after : Tree) (uses : List (String X × Use)) (c
   abbrev pub GivenSofar : List (String X × Use) → Type 0
   GivenSofar left = (name : List ℕ) (u : Use) → held name uses ≡ Some u → MeansNow before after name (held name changes) ⊎ (held name left ≡ held name uses)
 
-  pub none_given : GivenSofar uses
-  none_given name u e = inr refl
-
   left_more : (k : String X) (u : Use) (rest : List (String X × Use)) (name : List ℕ) → bytes_eq name (string_bytes k) ≡ false
       → MeansNow before after name (held name changes) ⊎ (held name ((k, u) ∷ rest) ≡ held name uses) → MeansNow before after name (held name changes) ⊎ (held name rest ≡ held name uses)
   left_more k u rest name other (inl means) = inl means

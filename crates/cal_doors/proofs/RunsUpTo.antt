@@ -5,22 +5,14 @@ use Rattle.std.specs.Int.Signed.{◌<ℤ◌}
 use Rattle.std.proofs.lemmas.Int.{ints}
 use Rattle.std.proofs.lemmas.List.{drop_all, drop_more, map_push}
 use Rattle.std.proofs.lemmas.List.Elements.{Contains-push, Contains-append_left, Contains-push_cases}
-use Rattle.profile.specs.series.Zones.{Onset, IsOnset}
-use Rattle.profile.specs.series.GeneralZones.{Never, AtInstant, Run, IsInTime, IsRunOnset, IsGeneralOnset}
+use Rattle.profile.specs.series.Zones.{Onset}
+use Rattle.profile.specs.series.GeneralZones.{Run, IsRunOnset, IsGeneralOnset}
 use Rattle.profile.specs.doors.Adapting.{times_end, IsOverAt}
 use Rattle.cal_doors.specs.Runs.{run_of, runs_in, AreUpTo}
 use Rattle.cal_doors.specs.declared.run.Run as kept
 use Rattle.cal_doors.specs.Between.{IsSameRunUpTo, IsSameEndUpTo, AreSameUpTo}
 
 -- ---- one run
-
--- without its end
-pub same_endless : (to until : ℤ) (run other : Run) → run.end ≡ AtInstant until → other.observance ≡ run.observance → other.end ≡ Never
-    → ((x : Onset) → IsRunOnset other x → x.instant ≤ℤ to → x.instant ≤ℤ until) → IsSameRunUpTo to run other
-same_endless to until run other ends same never quiet x l = (
-  λ h. let is = subst (λ o. IsOnset o x) (sym same) h.is in record { is = is; in_time = subst (λ e. IsInTime e other.observance is.day x.instant) (sym never) tt },
-  λ h. let is = subst (λ o. IsOnset o x) same h.is in record { is = is; in_time = subst (λ e. IsInTime e run.observance is.day x.instant) (sym ends) (quiet x h l) },
-)
 
 -- with another end
 pub same_ending : (to : ℤ) (run other : Run) → other.observance ≡ run.observance → IsSameEndUpTo to run.end other.end → IsSameRunUpTo to run other
@@ -59,9 +51,6 @@ done_or_pushed done run x (r, among, on) = elim (Contains-push_cases done run r 
 -- up to an instant the onsets of a zone are those of the runs that were made and of those that are left
 abbrev pub AreParted : ℤ → List Run → List Run → List Run → Type 0
 AreParted to zone done rest = (x : Onset) → x.instant ≤ℤ to → IsGeneralOnset zone x ↔ (IsGeneralOnset done x ⊎ IsGeneralOnset rest x)
-
-pub parted_start : (to : ℤ) (zone : List Run) → AreParted to zone [] zone
-parted_start to zone x l = (λ is. inr is, λ h. elim h [ inl is ↦ absurd (no_onset_of_none x is) | inr is ↦ is ])
 
 pub parted_end : (to : ℤ) (zone done : List Run) → AreParted to zone done [] → AreSameUpTo to zone done
 parted_end to zone done parted x l = (
@@ -110,9 +99,6 @@ parted_later to zone done rest run later parted x l = (
 -- no onset of a zone before the end of times in 32 bits is later than that, but for those of the runs that are left
 abbrev pub AreOverButFor : List Run → ℤ → List Run → Type 0
 AreOverButFor zone last rest = (x : Onset) → IsGeneralOnset zone x → x.instant <ℤ times_end → (x.instant ≤ℤ last) ⊎ IsGeneralOnset rest x
-
-pub over_start : (zone : List Run) (last : ℤ) → AreOverButFor zone last zone
-over_start zone last x is before = inr is
 
 pub over_end : (zone : List Run) (last : ℤ) → AreOverButFor zone last [] → IsOverAt zone last
 over_end zone last over x is before = elim (over x is before) [ inl l ↦ l | inr on ↦ absurd (no_onset_of_none x on) ]

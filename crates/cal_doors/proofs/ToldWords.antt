@@ -2,7 +2,7 @@
 use Rattle.std.proofs.Common.{◌≡◌, ◌∙◌, ◌⊎◌, inl, inr, ℕ, ◌<◌, ℤ, true, List, [], ◌∷◌, ◌++◌, length, get_or, codes, sym, ap, subst}
 use Rattle.std.specs.Prelude.{Contains, Some, None, option_map, unwrap_or}
 use Rattle.std.specs.List.{AllZip}
-use Rattle.std.proofs.lemmas.List.Elements.{Contains-push_cases, Contains-append_cases, All-push, All-get_or, All-head, All-tail, All-contains_itself, All-contains}
+use Rattle.std.proofs.lemmas.List.Elements.{Contains-push_cases, Contains-append_cases, All-get_or, All-head, All-tail, All-contains_itself, All-contains}
 use Rattle.profile.specs.text.Lines.{line_name, line_value, line_param}
 use Rattle.profile.specs.text.Trees.{Tree, vevents}
 use Rattle.profile.specs.events.Properties.{Fixed, Unsaid, is_of, kind_named, time_kind}
@@ -35,12 +35,6 @@ pub event_of : (object : Component) (items : List Component) (i : ℕ) (d : Comp
     → Contains (vevents (tree_of object)) (component_lines (get_or items i d))
 event_of object items i d are w is =
     subst (λ l. Contains l (component_lines (get_or items i d))) (ap events_among are ∙ sym (events_are object)) (event_in items i d w is)
-
--- one instance more
-pub instance_more : (object : Tree) (lines : List (List ℕ)) (old : List Instance) (i : Instance) → Contains (vevents object) lines → Contains lines i.text.now
-    → is_of (codes "RECURRENCE-ID") i.text.now ≡ true → SaysInstant object i.text.now Fixed i.instant → AreAllInstancesOf object old → AreAllInstancesOf object (old ++ i ∷ [])
-instance_more object lines old i event among is says are =
-    All-push (IsInstanceOf object) old i are (record { lines = lines; event = event; among = among; is = is; says = says })
 
 -- ---- a line is told
 

@@ -1,6 +1,6 @@
 -- The table of the zones that an object names, and times in these zones.
-use Rattle.std.proofs.Common.{◌≡◌, ap, sym, refl, subst, ℕ, ℤ, pos, Bool, true, false, cond, codes, List, [], ◌∷◌, inl, arith}
-use Rattle.std.specs.Prelude.{Option, Some, None, option_map, String, string_bytes, unwrap_or, Result, Ok, Err, IfOk}
+use Rattle.std.proofs.Common.{◌≡◌, sym, refl, subst, ℕ, ℤ, pos, Bool, true, false, cond, codes, List, [], ◌∷◌, inl, arith}
+use Rattle.std.specs.Prelude.{Option, Some, String, string_bytes, Result, Ok, Err, IfOk}
 use Rattle.std.specs.Result.{result_ok}
 use Rattle.std.specs.Map.{lookup}
 use Rattle.std.specs.Str.{bytes_eq}
@@ -9,12 +9,12 @@ use Rattle.std.proofs.lemmas.List.Elements.{All-nil, All-cons, All-head, All-tai
 use Rattle.std.proofs.lemmas.Int.{ints}
 use Rattle.std.proofs.lemmas.Option.{none-some, same_Some}
 use Rattle.std.proofs.lemmas.Slice.Eq.{bytes_eq-Decides}
-use Rattle.profile.specs.text.Lines.{is_same_name, line_param, line_value}
+use Rattle.profile.specs.text.Lines.{line_param, line_value}
 use Rattle.profile.specs.text.Trees.{Tree}
-use Rattle.profile.specs.text.Values.{SpellsStamp, SpellsLocal}
+use Rattle.profile.specs.text.Values.{SpellsLocal}
 use Rattle.profile.specs.series.Zones.{Constant, Means}
 use Rattle.profile.specs.series.ZoneTexts.{SaysZone}
-use Rattle.profile.specs.events.Properties.{Fixed, Unsaid, DateTime, Date, Period, Other, TimeKind, allows_form, kind_named, time_kind}
+use Rattle.profile.specs.events.Properties.{Fixed, allows_form, time_kind}
 use Rattle.profile.specs.events.ZonedTimes.{zone_named, SaysZoneOf, SpellsZoned, SaysInstant}
 use Rattle.cal_zones.specs.Kinds.{zone_of}
 use Rattle.cal_zones.specs.declared.zone.Zone.{Zone}
@@ -62,25 +62,9 @@ read_well (Err e) P x same p = absurd (none-some x (sym same))
 utc_means : (t : ℤ) → Means (Constant (pos 0)) t t
 utc_means t = inl (record { shown = (pos 0, refl, omega (arith, ints)); least = λ other (offset, e, h). omega (arith, ints, e, h) })
 
-pub says_stamp : (object : Tree) (line : List ℕ) (t : ℤ) → allows_form (time_kind line) Fixed ≡ true → None ≡ line_param (codes "TZID") line → SpellsStamp (line_value line) t
-    → SaysInstant object line Fixed t
-says_stamp object line t allowed none spells =
-    (None, t, (allowed, subst (λ name. SpellsZoned object name (line_value line) None t) none spells), utc_means t)
-
 pub says_zoned : (object : Tree) (line name : List ℕ) (zone : Zone) (local t : ℤ) → allows_form (time_kind line) Fixed ≡ true → Some name ≡ line_param (codes "TZID") line
     → SpellsLocal (line_value line) local → SaysZoneOf (zone_named name object) (zone_of zone) → Means (zone_of zone) local t → SaysInstant object line Fixed t
 says_zoned object line name zone local t allowed is spells says means =
     (Some (zone_of zone), local, (allowed, subst (λ n. SpellsZoned object n (line_value line) (Some (zone_of zone)) local) is (spells, says)), means)
 
 -- ---- VALUE
-
-pub unsaid_allows : (line : List ℕ) → None ≡ line_param (codes "VALUE") line → allows_form (time_kind line) Fixed ≡ true
-unsaid_allows line none = subst (λ o. allows_form (unwrap_or (option_map kind_named o) Unsaid) Fixed ≡ true) none refl
-
-pub date_time_allows : (line word : List ℕ) → Some word ≡ line_param (codes "VALUE") line → is_same_name word (codes "DATE-TIME") ≡ true → allows_form (time_kind line) Fixed ≡ true
-date_time_allows line word is same =
-    subst (λ o. allows_form (unwrap_or (option_map kind_named o) Unsaid) Fixed ≡ true) is
-    (ap (λ b. allows_form (cond b DateTime (other word)) Fixed) same)
-  where
-    other : List ℕ → TimeKind
-    other w = cond (is_same_name w (codes "DATE")) Date (cond (is_same_name w (codes "PERIOD")) Period Other)

@@ -2,7 +2,7 @@
 use Rattle.std.proofs.Common.{◌≡◌, ◌∙◌, ℕ, Bool, true, false, ◌&&◌, List, ◌++◌, length, codes, sym, ap, arith, ℤ, pos, ◌+ℤ◌, ◌≤ℤ◌}
 use Rattle.std.specs.Prelude.{Contains, Option, Some, None, Result, Ok, Err, IfOk, IfSome}
 use Rattle.std.specs.List.{list_any}
-use Rattle.std.specs.Int.{int_min, int_max}
+use Rattle.std.specs.Int.{int_min}
 use Rattle.std.specs.Str.{str_to_ascii_lowercase, bytes_eq}
 use Rattle.std.proofs.lemmas.Int.{ints, by_lt_z}
 use Rattle.std.proofs.lemmas.Bool.{true≢false}
@@ -26,12 +26,6 @@ least_of x y m is =
     by_lt_z y x
     (λ l. let e : m ≡ y = grind (arith, ints, is, l) in (omega (arith, ints, e, l), omega (arith, ints, e)))
     (λ l. let e : m ≡ x = grind (arith, ints, is, l) in (omega (arith, ints, e), omega (arith, ints, e, l)))
-
-pub most_of : (x y m : ℤ) → m ≡ int_max x y → (x ≤ℤ m) × (y ≤ℤ m)
-most_of x y m is =
-    by_lt_z y x
-    (λ l. let e : m ≡ x = grind (arith, ints, is, l) in (omega (arith, ints, e), omega (arith, ints, e, l)))
-    (λ l. let e : m ≡ y = grind (arith, ints, is, l) in (omega (arith, ints, e, l), omega (arith, ints, e)))
 
 pub through : (a b c : ℤ) → a ≤ℤ b → b ≤ℤ c → a ≤ℤ c
 through a b c l m = omega (arith, ints, l, m)
@@ -84,18 +78,6 @@ pub against : {P : Type 0} (b : Bool) → b ≡ false → b ≡ true → P
 against b f t = absurd (true≢false (sym t ∙ f))
 
 -- ---- from when on
-
--- a line of none of these says nothing
-pub says_nothing_first : (days : Bool) (line : List ℕ) (first : ℤ) → is_of (codes "RRULE") line ≡ false → (days && is_time_line line) ≡ false → LineBeginsBy days line first
-says_nothing_first days line first rule times = record {
-  until = λ r local is. against (is_of (codes "RRULE") line) rule is;
-  local_days = λ on local is s. against (days && is_time_line line) times (both days (is_time_line line) on is);
-  utc_days = λ on instant is s. against (days && is_time_line line) times (both days (is_time_line line) on is);
-}
-  where
-    both : (a b : Bool) → a ≡ true → b ≡ true → (a && b) ≡ true
-    both true b e f = f
-    both false b e f = absurd (true≢false (sym e))
 
 -- a rule
 pub rule_begins : (days : Bool) (line : List ℕ) (first : ℤ) → is_of (codes "RRULE") line ≡ true

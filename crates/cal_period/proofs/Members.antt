@@ -1,5 +1,5 @@
 -- Rules, zones and series have their members a period later.
-use Rattle.std.proofs.Common.{◌≡◌, ◌∙◌, refl, sym, subst, ap, inl, inr, ◌⊎◌, arith, ℕ, ◌+◌, ◌-◌, ◌*◌, ◌<◌, ◌≤◌, ◌||◌, ◌&&◌, nat_le, nat_lt, max, true, false, ℤ, pos, ◌+ℤ◌, ◌≤ℤ◌, true≢false}
+use Rattle.std.proofs.Common.{◌≡◌, ◌∙◌, refl, sym, subst, ap, inl, inr, ◌⊎◌, arith, ℕ, ◌+◌, ◌-◌, ◌*◌, ◌<◌, ◌≤◌, ◌||◌, ◌&&◌, nat_le, nat_lt, true, false, ℤ, pos, ◌+ℤ◌, ◌≤ℤ◌, true≢false}
 use Rattle.std.proofs.lemmas.Int.{ints}
 use Rattle.std.proofs.lemmas.Bool.{cases_Bool, cases_lt, and_parts, leb-true, ltb-true}
 use Rattle.std.proofs.lemmas.Option.{none-some}
@@ -15,7 +15,7 @@ use Rattle.profile.specs.events.Events.{Event}
 use Rattle.profile.specs.events.Spans.{has_end, IsRulePeriod, IsZonePeriod, IsPastOnsets, IsSaidSeries, IsPastAll, IsPeriodOf, IsLeastPeriodOf, HasNoPeriodOf}
 use Rattle.cal_zones.specs.Repeats.{ZoneRepeats, later_by}
 use Rattle.cal_period.specs.Recurring.{AreAllPastMost, AreMultiples, DoesRecur, HasNoCommon, IsLeastCommon}
-use Rattle.cal_period.specs.Members.{second_year, IsDayOfRule, IsListedDay, IsRuleRegular, IsRuleFrom, IsOnsetOf, Lasts, IsStartOf, IsListedStart, ComesAgainFrom}
+use Rattle.cal_period.specs.Members.{IsDayOfRule, IsListedDay, IsRuleRegular, IsRuleFrom, IsOnsetOf, Lasts, IsStartOf, IsListedStart, ComesAgainFrom}
 use Rattle.cal_period.proofs.Multiples.{series_are, ended_are, endless_are, endless_none}
 use Rattle.cal_rules.specs.LastDays.{NoDayTo, IsLastDayTo}
 use Rattle.cal_period.proofs.SaidSeries.{plain_of}
@@ -157,12 +157,6 @@ to_last r n e =
     let d = and_parts (nat_le r.pattern.start n && nat_le n r.last) (nat_le n last_rule_day) c.0 in
     leb-true n last_rule_day d.1
 
-pub endless_from : (r : Rule) (t : ℤ) → has_end r ≡ false → t ≡ local_time (max r.pattern.start second_year) 0 → IsRuleRegular r t × IsRuleFrom r t
-endless_from r t e is = (
-  record { start = omega (arith, ints, is); year = λ _. omega (arith, ints, is); last = λ ended. absurd (true≢false (sym ended ∙ e)) },
-  record { endless = λ _. is; ended = λ ended. absurd (true≢false (sym ended ∙ e)) },
-)
-
 pub ended_from : (r : Rule) (t : ℤ) (day : ℕ) → has_end r ≡ true → IsLastDayTo r last_rule_day day → t ≡ local_time (day + 1) 0 → IsRuleRegular r t × IsRuleFrom r t
 ended_from r t day e last is = (
   record {
@@ -217,6 +211,3 @@ common These Those d e (Some days) x y is few = record {
 
 pub none_first : (These Those : ℕ → Type 0) → AreAllPastMost These → HasNoCommon These Those
 none_first These Those none n some p q = none n some p
-
-pub none_second : (These Those : ℕ → Type 0) → AreAllPastMost Those → HasNoCommon These Those
-none_second These Those none n some p q = none n some q

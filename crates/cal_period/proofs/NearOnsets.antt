@@ -43,9 +43,6 @@ same_int {a} {b} l m = omega (arith, ints, l, m)
 abbrev pub HoldsTo : (Onset → Type 0) → (ℤ → Type 0) → ℤ → ℤ → Type 0
 HoldsTo Is P after last = (u : Onset) → Is u → after <ℤ u.instant → u.instant ≤ℤ last → P u.instant
 
-pub holds_first : (Is : Onset → Type 0) (P : ℤ → Type 0) (after : ℤ) → HoldsTo Is P after after
-holds_first Is P after u is past most = absurd (omega (arith, ints, past, most))
-
 pub holds_next : (Is : Onset → Type 0) (P : ℤ → Type 0) (after last onset : ℤ) → HoldsTo Is P after last → IsNextOnset Is last onset → P onset → HoldsTo Is P after onset
 holds_next Is P after last onset old next holds u is past most =
     by_lt_z last u.instant (λ less. let least = next.none u is less in subst P (same_int least most) holds) (λ early. old u is past early)

@@ -11,7 +11,7 @@ use Rattle.profile.specs.events.Confirmed.{Confirmed}
 use Rattle.cal_events.specs.Calendar.{instance_of}
 use Rattle.cal_events.specs.declared.instance.Instance.{Instance}
 use Rattle.cal_period.specs.declared.beside.Beside.{Beside}
-use Rattle.cal_period.specs.Besides.{IsSharer, HasNoSharer, IsBeside, IsSingleOr}
+use Rattle.cal_period.specs.Besides.{IsSharer, HasNoSharer, IsSingleOr}
 
 -- ---- the series for one span
 
@@ -70,9 +70,6 @@ singles_more all place None s e none k single w at =
       | inl before ↦ none k single before at
       | inr from ↦ let here : k ≡ place = omega (arith, w, from) in s single (ap (slice_get all.singles) (sym here) ∙ at)
     ]
-
-pub single_found : (all : Confirmed) (place : ℕ) (o : Option Beside) (b : Beside) → IsSingleOr all place o → o ≡ Some b → IsBeside all b
-single_found all place o b s e = subst (IsSingleOr all place) e s
 
 pub none_of_singles : (all : Confirmed) (place : ℕ) → length all.singles ≤ place → AreNoneBefore all place → (single : SaidInstance) → Contains all.singles single → HasNoSharer all.series single.start single.end
 none_of_singles all place past none single (k, w, e) = none k single (omega (arith, w, past)) (slice_get-get_or all.singles k single w ∙ ap Some e)

@@ -146,9 +146,6 @@ module _ (a b : Event) (m : ℕ) (modulus : IsModulus m) (first : List ℕ) (of_
 pub settling : (own : Bool) (a b : Event) (days m : ℕ) → IsLeastStride a b days → m ≡ 86_400 * days → ResiduesHold own a b m → AreSettling own a b m
 settling own a b days m least is holds = (days, least, is, holds)
 
-pub modulus_of : (a b : Event) (days m : ℕ) → IsLeastStride a b days → days ≤ 420 → m ≡ 86_400 * days → IsModulus m
-modulus_of a b days m least few is = (days, is, least.some, few)
-
 pub none_long : (own : Bool) (a b : Event) → HasLongStride a b → NoneSettle own a b
 none_long own a b long m (days, least, is, holds) =
     let past = long days least in

@@ -5,7 +5,7 @@ use Rattle.std.proofs.lemmas.Nat.{div-add-mod'}
 use Rattle.std.proofs.lemmas.Bool.{cases_lt}
 use Rattle.std.specs.Prelude.{MatchOption, Option, None, Some}
 use Rattle.profile.specs.series.Periods.{IsMultiple, IsLeastMultiple, HasNoMultiple, most_period}
-use Rattle.cal_rules.specs.Shifting.{IsLeastCount, HasNoCount, IsLeastCycle, HasNoCycle}
+use Rattle.cal_rules.specs.Shifting.{IsLeastCount, HasNoCount, HasNoCycle}
 
 -- a multiple leaves no rest
 no_rest : (n b : ℕ) → IsMultiple n b → n % b ≡ 0
@@ -66,9 +66,6 @@ either_order a b (Some days) h = swapped a b days h
 
 pub within : (a most count : ℕ) → count ≤ most → count * a ≤ most * a
 within a most count h = mul-le-mul_right a h
-
-pub least_cycle : (periods interval count : ℕ) → IsLeastCount periods interval 20 count → IsLeastCycle periods interval (count * 146_097)
-least_cycle periods interval count k = record { cycles = count; are = refl; some = k.some; in_step = k.multiple; least = k.least }
 
 pub no_cycle : (periods interval : ℕ) → HasNoCount periods interval 20 → HasNoCycle periods interval
 no_cycle periods interval none q some multiple = elim (cases_lt 20 q) [

@@ -1,6 +1,5 @@
 -- Numbers, weekdays and dates as they are spelled.
 use Rattle.std.proofs.Common.{◌≡◌, ◌∙◌, ◌≢◌, ap, sym, refl, ℕ, zero, suc, ◌+◌, ◌-◌, ◌*◌, ◌^◌, ◌<◌, ◌≤◌, lit<, lit≤, true, false, cond, nat_eq, inl, inr, ◌⊎◌, List, [], ◌∷◌, ◌++◌, length, get_or, take, drop, codes, Option, None, Some, is_some, unwrap_or, subst, IfSome, MatchOption, ℤ, pos, neg_ℤ, arith, Result, Ok, Err}
-use Rattle.std.proofs.lemmas.Bool.Decides.{nat_tests}
 use Rattle.std.proofs.lemmas.List.{take-append-drop, take_at, drop_at, get_or_at, length-append}
 use Rattle.std.proofs.lemmas.Str.{IsCharBoundary-before_ascii}
 use Rattle.std.proofs.lemmas.Str.Parse.{without_leading_plus_none, digit_from_value}
@@ -9,32 +8,15 @@ use denote.Ref.{Bor}
 use Rattle.std.specs.Str.{IsCharBoundary}
 use Rattle.std.specs.Str.Parse.{AllDigits, IsNumeral, digits_value, without_leading_plus, ParsesUnsigned}
 use Rattle.std.specs.Result.{result_ok}
-use Rattle.profile.specs.faults.Faults.{is_between}
 use Rattle.profile.specs.series.Days.{Frequency, Daily, Weekly, Monthly, Yearly}
 use Rattle.profile.specs.text.Values.{IsNumber, SpellsDate, SpellsLocal, SpellsStamp}
 use Rattle.profile.specs.series.Rules.{WeekdayNumber, Until, UntilDay, UntilLocal, UntilInstant}
-use Rattle.profile.specs.series.RuleTexts.{frequency_word, weekday_word, SpellsFrequency, SpellsWeekday, SpellsBetween, SpellsPlace, SpellsEntry, SpellsUntil, SpellsNone}
+use Rattle.profile.specs.series.RuleTexts.{frequency_word, weekday_word, SpellsWeekday, SpellsBetween, SpellsPlace, SpellsEntry, SpellsUntil, SpellsNone}
 use Rattle.ical_values.proofs.Spelled.{clock_parts, date_length}
 use Rattle.ical_values.proofs.Readings.{date_same, clock_same, stamp_same}
 use Rattle.ical_values.proofs.Parts.{head, tail}
 
 -- ---- words
-
-pub no_frequency_word : (value : List ℕ) → value ≢ codes "DAILY" → value ≢ codes "WEEKLY" → value ≢ codes "MONTHLY" → value ≢ codes "YEARLY" → SpellsNone SpellsFrequency value
-no_frequency_word value a b c d Daily e = a e
-no_frequency_word value a b c d Weekly e = b e
-no_frequency_word value a b c d Monthly e = c e
-no_frequency_word value a b c d Yearly e = d e
-
-pub no_weekday_word : (value : List ℕ) → value ≢ codes "MO" → value ≢ codes "TU" → value ≢ codes "WE" → value ≢ codes "TH" → value ≢ codes "FR" → value ≢ codes "SA" → value ≢ codes "SU" → SpellsNone SpellsWeekday value
-no_weekday_word value a b c d e f g zero s = a s.1
-no_weekday_word value a b c d e f g (suc zero) s = b s.1
-no_weekday_word value a b c d e f g (suc (suc zero)) s = c s.1
-no_weekday_word value a b c d e f g (suc (suc (suc zero))) s = d s.1
-no_weekday_word value a b c d e f g (suc (suc (suc (suc zero)))) s = e s.1
-no_weekday_word value a b c d e f g (suc (suc (suc (suc (suc zero))))) s = f s.1
-no_weekday_word value a b c d e f g (suc (suc (suc (suc (suc (suc zero)))))) s = g s.1
-no_weekday_word value a b c d e f g (suc (suc (suc (suc (suc (suc (suc n))))))) s = absurd (omega (arith, s.0))
 
 -- a word has two letters, and says which weekday it is
 abbrev weight : List ℕ → ℕ
@@ -115,15 +97,6 @@ plain_number bs n h p e =
 pub parsed : {E : Type 0} (bs : List ℕ) (r : Result ℕ E) → ((rest : List ℕ) → bs ≡ 43 ∷ rest → ⊥) → ParsesUnsigned 32 10 bs r → IfSome (result_ok r) (IsNumber bs)
 parsed bs (Ok n) h p = plain_number bs n h p.0.0 p.1
 parsed bs (Err e) h p = tt
-
-pub between_small : (low high : ℕ) (value : List ℕ) → high < 2 ^ 32 → ((n : ℕ) → n < 2 ^ 32 → IsNumber value n → ⊥) → SpellsNone (SpellsBetween low high) value
-between_small low high value bound none n s =
-    let small : n ≤ high = grind (arith, nat_tests) in none n (omega arith) s.0
-
-pub between_out : (low high : ℕ) (value : List ℕ) (m : ℕ) → IsNumber value m → is_between low high m ≡ false → SpellsNone (SpellsBetween low high) value
-between_out low high value m is out n s =
-    let same : m ≡ n = sym is.2 ∙ s.0.2 in
-    let both : is_between low high m ≡ true = ap (is_between low high) same ∙ s.1 in cc
 
 pub between_same : (low high : ℕ) (value : List ℕ) (m n : ℕ) → SpellsBetween low high value m → SpellsBetween low high value n → m ≡ n
 between_same low high value m n s t = sym s.0.2 ∙ t.0.2

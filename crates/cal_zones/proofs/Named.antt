@@ -7,7 +7,6 @@ use Rattle.std.proofs.lemmas.Bool.{true≢false, false≢true, and_parts, or_cas
 use Rattle.std.proofs.lemmas.Bool.Decides.{nat_tests, Decides-int_eq}
 use Rattle.std.proofs.lemmas.List.Folds.{list_all-map}
 use Rattle.jiff_core.proofs.SignedLemmas.{signed_arith}
-use Rattle.profile.specs.series.Days.{days_in_month}
 use Rattle.profile.specs.faults.Faults.{is_between}
 use Rattle.profile.specs.series.Rules.{WeekdayNumber, RuleText, is_missing, is_yearly}
 use Rattle.profile.specs.series.ZoneTexts.{MonthDays, OnDay, FromStart, FromEnd, InWeek, YearRule, are_only, is_weekday, is_of_seven, are_seven, names_days, is_each_year, is_plain_yearly, is_one_day}
@@ -138,9 +137,6 @@ one_days month xs es (InWeek f v) (InWeek g w) h k y =
     ap (λ n. InWeek n v) first ∙ ap (InWeek g) (entries_same (pos 0) (pos 0) v w es a.1 b.1).1
 
 -- ---- none
-
-month_most : (month : ℕ) → days_in_month 1 month ≤ 31
-month_most month = grind (arith, nat_tests)
 
 -- where there is no BYDAY
 pub none_on_day : (xs : List ℤ) (es : List WeekdayNumber) → is_missing es ≡ true

@@ -8,7 +8,7 @@ use Rattle.std.proofs.lemmas.Bool.{true≢false, false≢true, and_parts, eqb-tr
 use Rattle.std.proofs.lemmas.Bool.Decides.{Decides-int_eq}
 use Rattle.profile.specs.text.Values.{IsOffset, SpellsTime, WritesOffset, two_digits}
 use Rattle.profile.specs.series.Rules.{Pattern, is_base}
-use Rattle.profile.specs.series.Zones.{Observance, Zone, Constant, Single, Pair, Onset, IsOnset, IsOneOffset}
+use Rattle.profile.specs.series.Zones.{Observance, Zone, Constant, Single, Pair, Onset, IsOnset}
 use Rattle.profile.specs.series.ZoneTexts as written
 use Rattle.profile.specs.series.ZoneTexts.{AreMatched, AreSpaced, IsRuleOnset, OnDay, FromStart, FromEnd, InWeek}
 use Rattle.profile.specs.series.RoomZones.{IsRoomZone, IsTwoOffsets, BeginsSo, WritesHourMinute, WritesMonthDay}
@@ -24,7 +24,6 @@ use Rattle.cal_zones.specs.declared.pair.Pair as kept
 use Rattle.cal_zones.specs.declared.zone.Form.{Form}
 use Rattle.cal_zones.specs.declared.zone.Form.TheVariants as the
 use Rattle.cal_zones.specs.declared.room_zone.RoomZone.{RoomZone}
-use Rattle.cal_zones.proofs.Zones.{unique, once_constant, once_pair}
 
 -- ---- a zone that words mean
 
@@ -34,14 +33,6 @@ offset_written text offset (time, s, e) =
     let m = s.minutes in
     let c = s.counted in
     omega (arith, h, m, c)
-
-pub named_matched : (words : List ℕ) (z : Zone) → IsRoomZone words (Some z) → AreMatched z
-named_matched words z (inl (offset, some, writes, is)) = subst AreMatched (sym is) tt
-named_matched words z (inr t) = t.matched
-
-pub named_spaced : (words : List ℕ) (z : Zone) → IsRoomZone words (Some z) → AreSpaced z
-named_spaced words z (inl (offset, some, writes, is)) = subst AreSpaced (sym is) tt
-named_spaced words z (inr t) = t.spaced
 
 begun_offsets : (text : List ℕ) (from to : ℤ) (o : Observance) → IsOffset from → IsOffset to → BeginsSo text from to o → HasOffsets o
 begun_offsets text from to o f t b = (subst IsOffset (sym b.offset_from) f, subst IsOffset (sym b.offset_to) t)
@@ -69,17 +60,6 @@ never_at_once a b p q e f spaced x y h j same =
     let none : x.instant -ℤ y.instant ≡ pos 0 = omega (arith, ints, same) in
     let zero_far : 172_800 ≤ 0 = subst (λ (d : ℤ). 172_800 ≤ unsigned_abs d) none far in
     omega (arith, zero_far)
-
-constant_one : (k : ℤ) → IsOneOffset (Constant k)
-constant_one k t p q h j = unique (Constant k) t p q (once_constant k) h j
-
-pair_one : (a b : Observance) (p q : Pattern) → a.rule ≡ Some p → b.rule ≡ Some q → AreSpaced (Pair a b) → IsOneOffset (Pair a b)
-pair_one a b x y e f spaced t p q h j = unique (Pair a b) t p q (once_pair a b (never_at_once a b x y e f spaced)) h j
-
-pub named_one_offset : (words : List ℕ) (z : Zone) → IsRoomZone words (Some z) → IsOneOffset z
-named_one_offset words z (inl (offset, some, writes, is)) = subst IsOneOffset (sym is) (constant_one offset)
-named_one_offset words z (inr t) =
-    subst IsOneOffset (sym t.zone_is) (pair_one t.a t.b _ _ t.begins_standard.rule t.begins_daylight.rule (subst AreSpaced t.zone_is t.spaced))
 
 -- ---- the words of an offset
 

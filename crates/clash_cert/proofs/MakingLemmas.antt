@@ -152,11 +152,6 @@ key_there f all i None e w = absurd (false≢true (ap (λ r. is_some r) (e ∙ a
 pub held : {X : Type 0} (f : X → SaidInstance) (all : List SaidInstance) (i : ℕ) (o : Option X) (x : X) (a : SaidInstance) → option_map f o ≡ slice_get all i → o ≡ Some x → i < length all → get_or all i a ≡ a → f x ≡ a
 held f all i o x a e is w at = same_Some (f x) a (sym (ap (option_map f) is) ∙ e ∙ slice_get-get_or all i a w ∙ ap Some at)
 
-pub key_held : {X : Type 0} (f : X → Key) (all : List SaidInstance) (i : ℕ) (o : Option X) (x : X) (a : SaidInstance) → option_map f o ≡ option_map (λ b. b.key) (slice_get all i) → o ≡ Some x → i < length all
-    → get_or all i a ≡ a → f x ≡ a.key
-key_held f all i o x a e is w at =
-    same_Some (f x) a.key (sym (ap (option_map f) is) ∙ e ∙ ap (option_map (λ (b : SaidInstance). b.key)) (slice_get-get_or all i a w ∙ ap Some at))
-
 -- and this is its key
 pub own_key : (all : List SaidInstance) (place : ℕ) (o : Option Instance) (i : Instance) (k : Option OwnedKey) (key : OwnedKey) → option_map instance_of o ≡ slice_get all place → o ≡ Some i
     → option_map owned_key_of k ≡ option_map (λ b. b.key) (slice_get all place) → k ≡ Some key → owned_key_of key ≡ (instance_of i).key
@@ -235,9 +230,3 @@ module _ (all : Confirmed) (singles : AreClear (Contains all.singles) (IsOneOf a
   all_clear a b t (inl x) y c = singles a b t x y c
   all_clear a b t (inr x) (inl y) c = singles b a t y (inr x) (turned a b t c)
   all_clear a b t (inr x) (inr y) c = series_clear a b t x y c
-
--- of singles alone, without series, all are clear where the singles are
-pub singles_alone : (all : List SaidInstance) → IsClear (Contains all) → AreClear (IsOneOf (record { series = []; singles = all })) (IsOneOf (record { series = []; singles = all }))
-singles_alone all clear a b t (inl x) (inl y) c = clear a b t x y c
-singles_alone all clear a b t (inr (m, (k, w, e), h)) y c = absurd (omega (arith, w))
-singles_alone all clear a b t (inl x) (inr (m, (k, w, e), h)) c = absurd (omega (arith, w))

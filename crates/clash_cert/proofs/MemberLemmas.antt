@@ -1,23 +1,20 @@
 -- What is known of the series that are in groups, and how the pairs that have a line are found by that.
-use Rattle.std.proofs.Common.{◌≡◌, ◌≢◌, ℕ, zero, suc, ◌+◌, ◌-◌, ◌<◌, ◌≤◌, ◌==◌, Bool, true, false, cond, List, [], ◌∷◌, ◌++◌, Contains, length, get_or, take, drop, append_assoc, append-nil, subst, sym, refl, ap, ◌∙◌, inl, inr, arith}
-use Rattle.std.specs.Prelude.{◌⊎◌, AllPairs, Option, Some, None, IfSome, MatchOption}
+use Rattle.std.proofs.Common.{◌≡◌, ◌≢◌, ℕ, zero, suc, ◌+◌, ◌-◌, ◌<◌, ◌≤◌, ◌==◌, false, List, [], ◌∷◌, ◌++◌, Contains, length, get_or, take, drop, append_assoc, subst, sym, refl, ap, ◌∙◌, inl, inr, arith}
+use Rattle.std.specs.Prelude.{◌⊎◌, AllPairs, Option, Some, None, MatchOption}
 use Rattle.std.specs.List.{slice_get}
-use Rattle.std.specs.Ordering.{nat_cmp, is_eq}
-use Rattle.std.specs.BTreeMap.{get, is_at, Updates, IsEmpty}
-use Rattle.std.specs.Map.{lookup}
+use Rattle.std.specs.Ordering.{nat_cmp}
+use Rattle.std.specs.BTreeMap.{is_at, Updates}
 use Rattle.std.proofs.lemmas.Bool.{cases_order}
 use Rattle.std.proofs.lemmas.Bool.Decides.{nat_tests}
 use Rattle.std.proofs.lemmas.List.{length-drop, take-append-drop}
 use Rattle.std.proofs.Math.Seq.{drop-cons}
 use Rattle.std.proofs.lemmas.Option.{same_Some, none-some, slice_get-get_or, slice_get_within, get_or_from_slice_get}
-use Rattle.std.proofs.lemmas.List.Elements.{Contains-append_cases, Contains-append_left}
 use Rattle.profile.specs.checker.Certificates.{Group, IsPair, IsPairBefore, AreTogether}
-use Rattle.clash_cert.specs.Walked.{IsMemberOf, member_of, IsOfGroups, AreApart, IsRunEnd, HasPairLine, IsBeforeNext, IsNextOf, IsNextPairAfter, IsPairFrom, IsNextFrom, IsApartFrom, IsApartIn}
+use Rattle.clash_cert.specs.Walked.{IsMemberOf, member_of, IsOfGroups, AreApart, IsRunEnd, IsNextOf, IsNextPairAfter, IsPairFrom, IsNextFrom, IsApartFrom, IsApartIn}
 use Rattle.clash_cert.specs.declared.members.Member.{Member}
 use Rattle.clash_cert.specs.declared.members.Members.{Members}
 use Rattle.clash_cert.specs.declared.members.Run.{Run}
-use Rattle.clash_cert.proofs.ListLemmas.{none_in_nil, in_head, in_tail, in_cons, contained, pairs_head, pairs_tail, pairs_back, pairs_across}
-use Rattle.clash_cert.proofs.Walking.{before_or_from}
+use Rattle.clash_cert.proofs.ListLemmas.{none_in_nil, in_head, in_tail, in_cons, contained, pairs_head, pairs_tail, pairs_back}
 
 -- ---- places of groups
 
@@ -47,15 +44,6 @@ pub of_place : (groups : List Group) (place : ℕ) (g : Group) → slice_get gro
 of_place groups place g e = (place, slice_get_within groups place g e, get_or_from_slice_get groups place g g e)
 
 -- ---- none at first
-
-pub none_known : (members : Members) → IsEmpty members.by_number → IsOfGroups [] members
-none_known members e = record {
-  known = λ i m f. absurd (none-some m (sym (nothing i) ∙ f));
-  all = λ place i g f c. absurd (none-some g f);
-}
-  where
-    nothing : (i : ℕ) → member_of members i ≡ None
-    nothing i = ap (λ es. lookup (is_at (nat_cmp i)) es) e
 
 -- ---- the first that isn't in the group of another
 
@@ -298,9 +286,6 @@ pub record AreAdded (group : ℕ) (numbers left : List ℕ) (old new : Members) 
   pub first : IsRunAt new group done after
   pub added : AllPairs ◌<◌ numbers → (i : ℕ) → Contains done i → IsAdded new group done i
   pub others : (i : ℕ) → (Contains done i → ⊥) → member_of new i ≡ member_of old i
-
-pub added_start : (group : ℕ) (numbers : List ℕ) (old : Members) → AreAdded group numbers numbers old old None
-added_start group numbers old = record { done = []; whole = sym (append-nil numbers); first = refl; added = λ order i c. absurd (none_in_nil i c); others = λ i c. refl }
 
 module _ (group x last : ℕ) (numbers front : List ℕ) (old now new : Members) (after : Option Run) (a : AreAdded group numbers (front ++ x ∷ []) old now after) (end : IsRunEnd after x last)
     (put : Updates nat_cmp now.by_number new.by_number x (Some (record { group = group; last = last }))) where

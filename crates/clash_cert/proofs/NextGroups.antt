@@ -1,19 +1,18 @@
 -- Groups, one after another: which may come next, and where none does.
-use Rattle.std.proofs.Common.{◌≡◌, ℕ, zero, suc, ◌-◌, ◌<◌, ◌≤◌, Bool, true, false, not, List, [], ◌∷◌, ◌++◌, Contains, length, get_or, subst, sym, refl, ap, ◌∙◌, inl, inr, arith}
-use Rattle.std.specs.Prelude.{◌⊎◌, ◌↔◌, All, AllPairs, Option, Some, None, IfSome, IsTrue, is_some, codes}
-use Rattle.std.specs.List.{AllZip, slice_get, list_any}
+use Rattle.std.proofs.Common.{◌≡◌, ℕ, ◌-◌, ◌<◌, ◌≤◌, Bool, true, false, not, List, [], ◌∷◌, ◌++◌, Contains, length, get_or, subst, sym, refl, ap, ◌∙◌, inl, inr, arith}
+use Rattle.std.specs.Prelude.{◌⊎◌, ◌↔◌, AllPairs, Option, Some, None, IfSome, IsTrue, is_some, codes}
+use Rattle.std.specs.List.{slice_get, list_any}
 use Rattle.std.proofs.lemmas.Bool.{cases_order, true≢false}
-use Rattle.std.proofs.lemmas.Option.{same_Some, slice_get-get_or}
-use Rattle.std.proofs.lemmas.List.Elements.{All-nil, All-push}
+use Rattle.std.proofs.lemmas.Option.{slice_get-get_or}
+use Rattle.std.proofs.lemmas.List.Elements.{All-push}
 use Rattle.std.proofs.lemmas.List.Folds.{list_any_at, Any-from_list_any}
 use Rattle.profile.specs.checker.Certificates.{Group, IsGroup, IsGroupLine, AreInOrder, first_of, spelled}
-use Rattle.clash_cert.specs.Texts.{Lacks}
-use Rattle.clash_cert.specs.Reading.{IsGroupAt, LacksGroup}
-use Rattle.clash_cert.specs.Walked.{member_of, IsOfGroups, AreApart, IsNextGroup, IsAfterLast, HasGroupLines, AreGroupsAt, BreaksGroups}
+use Rattle.clash_cert.specs.Reading.{IsGroupAt}
+use Rattle.clash_cert.specs.Walked.{member_of, IsOfGroups, AreApart, IsNextGroup, IsAfterLast, HasGroupLines, BreaksGroups}
 use Rattle.clash_cert.specs.declared.members.Member.{Member}
 use Rattle.clash_cert.specs.declared.members.Members.{Members}
 use Rattle.clash_cert.proofs.TextLemmas.{spelled-append}
-use Rattle.clash_cert.proofs.ListLemmas.{zip_append, pairs_nil, pairs_push}
+use Rattle.clash_cert.proofs.ListLemmas.{zip_append, pairs_push}
 use Rattle.clash_cert.proofs.MemberLemmas.{place_of, of_place}
 
 -- ---- a group that comes after the last one comes after each
@@ -85,9 +84,6 @@ not_next groups group b may e next = true≢false (sym (may.1 next) ∙ e)
 
 -- ---- their lines
 
-pub groups_start : (n : ℕ) (bytes : List ℕ) → HasGroupLines n [] bytes bytes
-groups_start n bytes = record { good = All-nil (IsGroup n); ordered = pairs_nil AreInOrder; lines = []; of = tt; is = refl }
-
 pub groups_more : (n : ℕ) (groups : List Group) (group : Group) (bytes rest left : List ℕ) → HasGroupLines n groups bytes rest → IsGroupAt n group rest left → IsNextGroup groups group
     → HasGroupLines n (groups ++ group ∷ []) bytes left
 groups_more n groups group bytes rest left w at next = record {
@@ -97,9 +93,6 @@ groups_more n groups group bytes rest left w at next = record {
   of = zip_append IsGroupLine groups (group ∷ []) w.lines (at.line ∷ []) w.of (at.of, tt);
   is = w.is ∙ ap (spelled w.lines) at.is ∙ sym (spelled-append w.lines (at.line ∷ []) left);
 }
-
-pub breaks_at : (n : ℕ) (groups : List Group) (bytes rest : List ℕ) → HasGroupLines n groups bytes rest → (words : List ℕ) × (rest ≡ codes "GROUP " ++ words) → LacksGroup n rest → BreaksGroups n bytes rest
-breaks_at n groups bytes rest w begins none = record { groups = groups; lines = w; begins = begins; lacks = inl none }
 
 pub breaks_behind : (n : ℕ) (groups : List Group) (group : Group) (bytes rest left : List ℕ) → HasGroupLines n groups bytes rest → (words : List ℕ) × (rest ≡ codes "GROUP " ++ words) → IsGroupAt n group rest left
     → (IsNextGroup groups group → ⊥) → BreaksGroups n bytes rest

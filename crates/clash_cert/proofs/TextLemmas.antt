@@ -189,11 +189,6 @@ spelled-take zero ls rest = refl
 spelled-take (suc n) [] rest = refl
 spelled-take (suc n) (l ∷ ls) rest = ap (λ t. l ++ 10 ∷ t) (spelled-take n ls rest)
 
-pub spelled-take_suc : (n : ℕ) (ls : List (List ℕ)) (rest : List ℕ) → n < length ls → spelled (take (suc n) ls) rest ≡ spelled (take n ls) (get_or ls n [] ++ 10 ∷ rest)
-spelled-take_suc n [] rest h = absurd (omega arith)
-spelled-take_suc zero (l ∷ ls) rest h = refl
-spelled-take_suc (suc n) (l ∷ ls) rest h = ap (λ t. l ++ 10 ∷ t) (spelled-take_suc n ls rest (omega arith))
-
 pub spelled-append : (ls ms : List (List ℕ)) (rest : List ℕ) → spelled (ls ++ ms) rest ≡ spelled ls (spelled ms rest)
 spelled-append [] ms rest = refl
 spelled-append (l ∷ ls) ms rest = ap (λ t. l ++ 10 ∷ t) (spelled-append ls ms rest)

@@ -15,13 +15,12 @@ use Rattle.profile.specs.text.Values.{WritesStamp, IsClockSeconds}
 use Rattle.profile.specs.checker.Certificates.{Claims, Pair, Group, Entry, End, Span, Res, IsEntry, IsEntryText, IsClaims, IsGroup, IsApart, IsPair, IsPairBefore, IsPairLine, IsGroupLine, AreInOrder, AreTogether, AreLines, groups_of, spelled, SpellsCertificate, BeginsWell, FirstWrong, IsSeriesAt, IsCertificateMade}
 use Rattle.profile.specs.events.Events.{Event}
 use Rattle.profile.specs.events.Confirmed.{Confirmed}
-use Rattle.clash_cert.specs.Chosen.{AreKeptFrom}
 use Rattle.clash_cert.specs.Texts.{Lacks, IsNoNumber}
 use Rattle.clash_cert.specs.Reading.{IsNoEntry, IsNoSpan, IsNoGroup}
 use Rattle.clash_cert.proofs.TextLemmas.{cancel, digits_model, same_lines, spelled-take, AreFree-take}
 use Rattle.clash_cert.proofs.FreeLines.{certificate_free}
 use Rattle.clash_cert.proofs.OneContent.{after_number}
-use Rattle.clash_cert.proofs.Words.{no_entry, no_modulus, no_stamp, no_days, not_sixty}
+use Rattle.clash_cert.proofs.Words.{no_entry, no_stamp, not_sixty}
 use Rattle.clash_cert.proofs.GroupWords.{group_other, within_of, ascending_of}
 
 -- ---- without series
@@ -350,14 +349,6 @@ no_zero n h e =
     let long = ap length text in
     omega (arith, long)
 
-no_leading_zero : IsNoEntry (codes "SPAN 20250116T000000Z 07")
-no_leading_zero =
-    other_is_none (codes "SPAN 20250116T000000Z 07") refl
-    (no_days (codes "SPAN 20250116T000000Z 07") (codes "20250116T000000Z 07") refl (codes "20250116T000000Z") (codes " 07") refl refl (codes "07") refl no_zero)
-
-no_zero_of_res : IsNoEntry (codes "RES 07")
-no_zero_of_res = no_modulus (codes "RES 07") (codes "07") refl no_zero
-
 -- ---- the first wrong line
 
 -- a line that begins with P, and is the fourth, is of a pair
@@ -448,15 +439,3 @@ module _ (old : Claims) (was : Confirmed) (a b c : Event) (made : IsCertificateM
     | inl (place, number) ↦ ap (slice_get was.series) (ap (λ k. k - 1) number) ∙ ap (λ xs. slice_get xs 1) series ∙ sym (ap (slice_get (b ∷ c ∷ a ∷ [])) place) ∙ at
     | inr (place, number) ↦ ap (slice_get was.series) (ap (λ k. k - 1) number) ∙ ap (λ xs. slice_get xs 0) series ∙ sym (ap (slice_get (b ∷ c ∷ a ∷ [])) place) ∙ at
   ]
-
-  kept_turned : AreKeptFrom old numbers (b ∷ c ∷ a ∷ [])
-  kept_turned = record {
-    was = was;
-    made = made;
-    counted = λ i n e. elim (number_of i n e) [ inl (place, number) ↦ omega (arith, number) | inr (place, number) ↦ omega (arith, number) ];
-    same = same_series;
-    once = λ i j n e f. elim (number_of i n e) [
-      | inl (place, number) ↦ elim (number_of j n f) [ inl (other, again) ↦ place ∙ sym other | inr (other, again) ↦ absurd (omega (arith, number, again)) ]
-      | inr (place, number) ↦ elim (number_of j n f) [ inl (other, again) ↦ absurd (omega (arith, number, again)) | inr (other, again) ↦ place ∙ sym other ]
-    ];
-  }

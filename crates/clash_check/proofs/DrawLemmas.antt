@@ -94,15 +94,6 @@ first_before series from bound start end first less = (
       omega (arith, ints, l, starts),
 )
 
-pub none_before_bound : (series : Event) (from bound start end : ℤ) → IsFirstSpanFrom series from (Some (start, end)) → bound ≤ℤ start → IsFirstBetween series from bound None
-none_before_bound series from bound start end first most s e is =
-    let of = is.0 in
-    let at = is.1 in
-    let early = is.2 in
-    let starts = of.2 in
-    let l = first.2 of.0 of.1 (omega (arith, ints, at, starts)) in
-    omega (arith, ints, l, starts, early, most)
-
 pub none_at_all : (series : Event) (from bound : ℤ) → IsFirstSpanFrom series from None → IsFirstBetween series from bound None
 none_at_all series from bound none s e is =
     let of = is.0 in

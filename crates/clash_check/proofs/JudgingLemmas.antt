@@ -4,7 +4,7 @@ use Rattle.std.specs.Prelude.{Some, Contains}
 use Rattle.std.specs.List.{slice_get}
 use Rattle.std.proofs.lemmas.Option.{slice_get-get_or}
 use Rattle.profile.specs.checker.Instances.{AreClear, HasClash}
-use Rattle.profile.specs.checker.Certificates.{Claims, Entry, End, Span, Res, InGroup, IsClaims, IsSeriesAt, EntryHolds, StatementsHold, HasCounts, HasFailingStatement, HasClashes, IsWrongCount, statements}
+use Rattle.profile.specs.checker.Certificates.{Claims, Entry, End, Span, Res, InGroup, IsClaims, IsSeriesAt, EntryHolds, StatementsHold, HasCounts, HasFailingStatement, HasClashes, statements}
 use Rattle.profile.specs.events.Events.{Event}
 use Rattle.profile.specs.events.Starts.{IsInstance}
 use Rattle.profile.specs.events.Confirmed.{Confirmed, IsOneOf}
@@ -57,14 +57,6 @@ no_singles all text Yes h f = absurd h
 no_singles all text (No why) h f =
     inl (h.2, inr (inr (subst (λ n. HasClashes all text n why.first) (sym h.0) (subst (λ n. HasClashes all text 84 n) (sym h.1) f))))
 
-pub no_counts : (all : Confirmed) (text : List ℕ) (v : Verdict) → IsNo 82 0 0 v → IsWrongCount all text 82 0 → IsVerdict all text v
-no_counts all text Yes h f = absurd h
-no_counts all text (No why) h f =
-    inl (h.2, inr (inl (subst (λ n. IsWrongCount all text n why.first) (sym h.0) (subst (λ n. IsWrongCount all text 82 n) (sym h.1) f))))
-
-pub verdict_counts : (all : Confirmed) (c : Claims) (v : Verdict) → IsNo 82 0 0 v → (HasCounts all c → ⊥) → IsVerdictOf all c v
-verdict_counts all c v is_no other text s = no_counts all text v is_no (record { is = refl; no_line = refl; c = c; spells = s.0; other = other })
-
 pub verdict_statement : (all : Confirmed) (c : Claims) → HasCounts all c → (i j : ℕ) (v : Verdict) → IsNo 83 i j v → (old new : ℕ) → OneFails all (statements c) i j old new → IsVerdictOf all c v
 verdict_statement all c counts i j v is_no old new f text s =
     no_statement all text i j v is_no (record { is = refl; c = c; spells = s.0; counts = counts; failing = f.failing; first_failing = f.stop; named = f.named })
@@ -77,10 +69,6 @@ pub verdict_yes : (all : Confirmed) (c : Claims) → HasCounts all c → Stateme
 verdict_yes all c counts holds clear text s = record { c = c; spells = s.0; counts = counts; statements = holds; singles = clear }
 
 -- ---- how many were made
-
-pub made_none : (all : Confirmed) (text : List ℕ) (n first second : ℕ) (v : Verdict) (made : ℕ) → n ≤ 82 → IsNo n first second v → made ≡ 0 → MakesFewFor all text made v
-made_none all text n first second Yes made few h e = absurd h
-made_none all text n first second (No why) made few h e = let k = h.0 in (λ l. e, λ same. absurd (omega (arith, k, few, same)), λ same. absurd (omega (arith, k, few, same)))
 
 pub made_statement : (all : Confirmed) (c : Claims) (i j : ℕ) (v : Verdict) (old new made : ℕ) → IsNo 83 i j v → old ≡ 0 → made ≡ new → made ≤ 18446744073709551615
     → OneFails all (statements c) i j old new → (text : List ℕ) → SpellsOnly text c → MakesFewFor all text made v

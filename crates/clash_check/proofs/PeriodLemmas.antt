@@ -111,15 +111,6 @@ pub record IsWidestOf (all : Confirmed) (numbers : List ℕ) (n : ℕ) (width : 
   pub least : pos 0 ≤ℤ width
   pub short : width <ℤ pos (2 ^ 50)
 
-pub widest_first : (all : Confirmed) (numbers : List ℕ) → IsWidestOf all numbers 0 (pos 0)
-widest_first all numbers = record {
-  none = λ _. refl;
-  one = λ l. absurd (omega (arith, l));
-  most = λ k l. absurd (omega (arith, l));
-  least = omega (arith, ints);
-  short = omega (arith, ints);
-}
-
 max_cases : (p q m : ℤ) → m ≡ int_max p q → ((q <ℤ p) × (m ≡ p)) ⊎ ((p ≤ℤ q) × (m ≡ q))
 max_cases p q m e = by_lt_z q p (λ l. inl (l, e ∙ first p q l)) (λ l. inr (l, e ∙ second p q l))
   where

@@ -18,7 +18,6 @@ use Rattle.clash_check.specs.Draws.{IsDrawable, LastsAbout}
 use Rattle.clash_check.specs.Entries.{IsEntryDrawn}
 use Rattle.clash_check.specs.Singles.{week, IsSharedByNone}
 use Rattle.clash_check.proofs.EntryLemmas.{one_place, two_places}
-use Rattle.clash_check.proofs.PeriodLemmas.{rest_of_multiple}
 use Rattle.clash_check.proofs.SweepLemmas.{series_there, series_in}
 
 -- ---- which numbers m may be
@@ -33,9 +32,6 @@ modulus_days m r rest told =
           let most = modulus.3 in
           told.1 (omega (arith, d, rest, is, some), omega (arith, d, rest, is, most)),
     )
-
-pub modulus_rest : (m : ℕ) → IsModulus m → m % 86_400 ≡ 0
-modulus_rest m modulus = rest_of_multiple m 86_400 (modulus.0, let is = modulus.1 in omega (arith, is))
 
 pub modulus_range : (m : ℕ) → IsModulus m → (0 < m) × (m ≤ 36_288_000) × (m < 2 ^ 40)
 modulus_range m (days, e, some, most) = (omega (arith, e, some), omega (arith, e, most), omega (arith, e, most))

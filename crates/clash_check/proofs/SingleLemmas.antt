@@ -4,7 +4,6 @@ use Rattle.std.specs.Prelude.{Option, Some, None, ◌↔◌, IfSome, MatchBool, 
 use Rattle.std.specs.Int.{saturate_signed}
 use Rattle.std.specs.List.{slice_get}
 use Rattle.std.proofs.Math.Nat.{add_comm, mul_assoc, mul_comm, mul-le-mul_right}
-use Rattle.std.proofs.Math.Seq.{take-length}
 use Rattle.std.proofs.lemmas.List.{length-map, map-append, take_more, get_or-map, get_or_default}
 use Rattle.std.proofs.lemmas.Option.{same_Some, slice_get-get_or, slice_get_within, get_or_from_slice_get}
 use Rattle.std.proofs.lemmas.Int.{ints, by_lt_z}
@@ -275,9 +274,6 @@ pub record IsMetAt (all : Confirmed) (i : ℕ) (spans : List Span) (index : ℕ)
   pub none : (a : Event) → IsSeriesAt all i a → (k : ℕ) (s : Span) → k < index → slice_get spans k ≡ Some s → IsSharedByNone a s.start s.end
   pub few : (a : Event) → IsSeriesAt all i a → AreClear (IsInstance a) (IsInstance a) → IsFewMore old new (index * 3)
 
-pub met_first : (all : Confirmed) (i : ℕ) (spans : List Span) (n : ℕ) → IsMetAt all i spans 0 all n n
-met_first all i spans n = record { same = refl; none = λ a there k s less. absurd (omega (arith, less)); few = λ a there clear. none_more n (0 * 3) }
-
 module _ (all : Confirmed) (i : ℕ) (spans : List Span) (index : ℕ) (calendar : Confirmed) (old mid new : ℕ) (s : Span) (there : slice_get spans index ≡ Some s) (at : IsMetAt all i spans index calendar old mid)
     (few : (a : Event) → IsSeriesAt all i a → AreClear (IsInstance a) (IsInstance a) → IsFewMore mid new 3) where
   met_few : (a : Event) → IsSeriesAt all i a → AreClear (IsInstance a) (IsInstance a) → IsFewMore old new (index * 3 + 3)
@@ -318,13 +314,6 @@ pub record IsAnyAt (all : Confirmed) (spans : List Span) (before : ℕ) (calenda
   pub same : calendar ≡ all
   pub none : (i : ℕ) (a : Event) → 0 < i → i ≤ before → IsSeriesAt all i a → HasNoSharers a spans
   pub few : IsEachClear all → IsFewMore old new (before * (length spans * 3))
-
-pub any_first : (all : Confirmed) (spans : List Span) (n : ℕ) → IsAnyAt all spans 0 all n n
-any_first all spans n = record {
-  same = refl;
-  none = λ i a some none. absurd (omega (arith, some, none));
-  few = λ clear. none_more n (0 * (length spans * 3));
-}
 
 one_more_times : (k m : ℕ) → (k + 1) * m ≡ k * m + m
 one_more_times k m = let e : k + 1 ≡ suc k = omega arith in let f : suc k * m ≡ m + k * m = omega arith in ap (λ n. n * m) e ∙ f ∙ add_comm m (k * m)
@@ -375,9 +364,6 @@ pub record AreDrawnAt (all : Confirmed) (before : ℕ) (calendar : Confirmed) (i
   pub spans : items ≡ map span_in (take before all.singles)
   pub count : IsMore old new before
 
-pub singles_first : (all : Confirmed) (n : ℕ) → AreDrawnAt all 0 all [] n n
-singles_first all n = record { same = refl; spans = refl; count = omega arith }
-
 abbrev span_from : ℤ → ℤ → Span
 span_from x y = record { start = x; end = y }
 
@@ -406,13 +392,6 @@ singles_next all before calendar calendar' spans old mid new start end w at same
 
     span_same : (a b c d : ℤ) → a ≡ c → b ≡ d → ◌≡◌ {A = Span} (record { start = a; end = b }) (record { start = c; end = d })
     span_same a b c d e f = ap (λ (x : ℤ). span_from x b) e ∙ ap (λ (y : ℤ). span_from c y) f
-
-pub singles_whole : (all : Confirmed) (before : ℕ) (calendar : Confirmed) (spans : List Span) (old new : ℕ) → before ≡ length all.singles → AreDrawnAt all before calendar spans old new
-    → (spans ≡ map span_in all.singles) × IsMore old new (length all.singles)
-singles_whole all before calendar spans old new e at = (
-  at.spans ∙ ap (λ n. map span_in (take n all.singles)) e ∙ ap (map span_in) (take-length all.singles),
-  subst (IsMore old new) e at.count,
-)
 
 -- where no two spans share an instant, no two singles clash
 pub singles_apart : (all : Confirmed) (spans : List Span) → spans ≡ map span_in all.singles → AreSpansApart spans → IsClear (Contains all.singles)
@@ -505,11 +484,6 @@ beside_judged all own spans is clear false none =
 -- how many were drawn in all
 each_times : (all : Confirmed) → singles_count all ≡ length all.singles * (length all.series * 3) + length all.singles
 each_times all = one_more_times (length all.series * 3) (length all.singles) ∙ ap (λ n. n + length all.singles) (mul_comm (length all.series * 3) (length all.singles))
-
-pub singles_some : (all : Confirmed) (old new : ℕ) → IsMore old new (length all.singles) → AreSinglesDrawn all old new
-singles_some all old new is =
-    let e = each_times all in
-    (length all.singles, omega arith, omega (arith, e), is)
 
 -- three for each series and each span, and for each span and each series
 turned_times : (m n : ℕ) → m * (n * 3) ≡ n * (m * 3)

@@ -1,7 +1,7 @@
 -- The statements of a certificate, judged one after another.
 use Rattle.std.proofs.Common.{◌≡◌, ◌∙◌, ap, sym, refl, subst, arith, ℕ, zero, suc, ◌+◌, ◌<◌, ◌≤◌, List, [], ◌∷◌, ◌++◌, length, map, take, drop, get_or, inl, inr, true, false, Bool}
 use Rattle.std.specs.Prelude.{All, Contains, MatchBool, Option, Some, None}
-use Rattle.std.proofs.lemmas.List.{append_assoc, take_all, take_more, take-append-drop, drop_more, length-map}
+use Rattle.std.proofs.lemmas.List.{append_assoc, take_more, take-append-drop, drop_more, length-map}
 use Rattle.std.proofs.lemmas.List.Elements.{All-nil, All-cons, All-append, All-weaker}
 use Rattle.std.proofs.lemmas.List.Sums.{sum_by-cons, sum_by-append}
 use Rattle.profile.specs.checker.Certificates.{Claims, Group, Pair, Statement, OfGroup, OfPair, IsClaims, IsApart, IsPair, groups_of, statements, StatementHolds, StatementFails, IsNamedBy}
@@ -105,9 +105,6 @@ pub record AreHeldTo (all : Confirmed) (those : List Statement) (k : ℕ) (calen
 
 pub held_first : (all : Confirmed) (those : List Statement) (n : ℕ) → AreHeldTo all those 0 all n n
 held_first all those n = record { same = refl; so_far = none_hold all n }
-
-pub held_all : (all : Confirmed) (those : List Statement) (k : ℕ) (calendar : Confirmed) (old new : ℕ) → length those ≤ k → AreHeldTo all those k calendar old new → AllHold all those old new
-held_all all those k calendar old new past at = subst (λ l. AllHold all l old new) (take_all k those past) at.so_far
 
 module _ (all : Confirmed) (those : List Statement) (k : ℕ) (calendar : Confirmed) (old mid new : ℕ) (within : k < length those) (at : AreHeldTo all those k calendar old mid)
     (one : Statement) (is : one ≡ get_or those k one) where

@@ -195,14 +195,6 @@ lines_refuse b n octets lines e h =
     let k : (list_any (line_has n) (logical_lines octets) || (eqb n 6 && (b && ltb 65536 (length (logical_lines octets))))) ≡ true = (let P : List (List ℕ) → Type 0 = λ ls. (list_any (line_has n) ls || (eqb n 6 && (b && ltb 65536 (length ls)))) ≡ true in subst P e h) in
     bound_or (list_any (line_has n) (logical_lines octets)) (eqb n 5 && not (is_utf8 (ended (logical_lines octets)))) (eqb n 6) b (ltb 1048576 (length octets)) (ltb 65536 (length (logical_lines octets))) k
 
-or_second : (a c : Bool) → (a || true || c) ≡ true
-or_second true c = refl
-or_second false c = refl
-
-pub utf8_refuses : (b : Bool) (octets : List ℕ) → is_utf8 (ended (logical_lines octets)) ≡ false → text_has b 5 octets ≡ true
-utf8_refuses b octets u =
-    rw u (or_second (list_any (line_has 5) (logical_lines octets)) (false && (b && (ltb 1048576 (length octets) || ltb 65536 (length (logical_lines octets))))))
-
 pub all_read : (b : Bool) (octets : List ℕ) (lines : List (List ℕ)) → lines ≡ logical_lines octets → is_utf8 (ended (logical_lines octets)) ≡ true → list_any is_faulty lines ≡ false → (b && ltb 65536 (length lines)) ≡ false → (b && ltb 1048576 (length octets)) ≡ false → reads_as_lines b octets ≡ true
 all_read b octets lines e u f n o =
     let g : list_any is_faulty (logical_lines octets) ≡ false = ap (list_any is_faulty) (sym e) ∙ f in

@@ -60,9 +60,6 @@ bound_refuses true count line rest lines all e m l =
     let more : ltb 65536 (length all) ≡ true = lt-ltb 65536 (length all) (omega (arith, ltb-true 65536 (count + 1) m, ap length e, l)) in
     rw more (or-true (list_any (line_has 6) all))
 
-pub utf8_first : (b : Bool) (octets : List ℕ) → is_utf8 (ended (logical_lines octets)) ≡ false → (b && ltb 1048576 (length octets)) ≡ false → is_number (text_fault b octets) 5 ≡ true
-utf8_first b octets u o = rw (o, u) refl
-
 pub lines_first : (b : Bool) (n : ℕ) (octets : List ℕ) (lines : List (List ℕ)) → lines ≡ logical_lines octets → is_utf8 (ended (logical_lines octets)) ≡ true → (b && ltb 1048576 (length octets)) ≡ false → is_number (lines_fault b lines) n ≡ true → is_number (text_fault b octets) n ≡ true
 lines_first b n octets lines e u o h =
     let k : is_number (lines_fault b (logical_lines octets)) n ≡ true = (let P : List (List ℕ) → Type 0 = λ ls. is_number (lines_fault b ls) n ≡ true in subst P e h) in

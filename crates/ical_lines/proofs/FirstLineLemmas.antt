@@ -1,5 +1,5 @@
 -- The end of the first logical line, and a line that is put there.
-use Rattle.std.proofs.Common.{◌≡◌, map, filter, ℕ, ◌<◌, ◌≤◌, ◌+◌, ◌-◌, Bool, true, false, not, ◌&&◌, ◌||◌, cond, eqb, Option, None, Some, List, [], ◌∷◌, ◌++◌, length, take, drop, get_or, Bor, refl, ap, sym, subst, ◌∙◌, arith}
+use Rattle.std.proofs.Common.{◌≡◌, map, filter, ℕ, ◌<◌, ◌≤◌, ◌+◌, ◌-◌, Bool, true, false, not, ◌&&◌, ◌||◌, cond, eqb, Option, None, Some, List, [], ◌∷◌, ◌++◌, length, take, drop, get_or, Bor, refl, ap, sym, ◌∙◌, arith}
 use Rattle.std.specs.List.{slice_split, onto_first, list_any}
 use Rattle.std.proofs.lemmas.Bool.{true≢false, and_parts, not-true}
 use Rattle.std.proofs.lemmas.Bool.Decides.{nat_tests}
@@ -115,12 +115,6 @@ before_step octets filled now rest line left b h lines cut is =
 at_most_one : (t : Bool) (x : List ℕ) → length (cond t (x ∷ []) []) ≤ 1
 at_most_one true x = omega arith
 at_most_one false x = omega arith
-
-pub before_none : (octets : List ℕ) (filled : Bool) (left : Option (Bor (List ℕ))) → lines_after left ≡ [] → IsBefore octets filled left → length (logical_lines octets) ≤ 1
-before_none octets filled left n b =
-    let are : logical_lines octets ≡ cond (is_filled b.begun) (b.begun ∷ []) [] =
-    ap (filter is_filled) (b.are ∙ ap (λ z. b.empties ++ gather b.begun z) n) ∙ (filter-append is_filled b.empties (b.begun ∷ []) ∙ ap (λ z. z ++ filter is_filled (b.begun ∷ [])) b.none) in
-    subst (λ (z : List (List ℕ)). length z ≤ 1) (sym are) (at_most_one (is_filled b.begun) b.begun)
 
 -- ---- the line has ended
 

@@ -29,13 +29,6 @@ pub with_none : (cs : List Open) (run : Lines) → run ≡ [] → with_lines run
 with_none [] run e = refl
 with_none (c ∷ cs) run e = ap (λ own. with_own own c ∷ cs) (ap (λ r. c.own ++ r) e ∙ append-nil c.own)
 
--- the lines of the run have moved to the innermost component
-pub with_moved : (items : List Component) (c d : Component) (run : Lines) → component_name d ≡ component_name c → component_children d ≡ component_children c → component_lines d ≡ component_lines c ++ run → with_lines [] (opens (items ++ d ∷ [])) ≡ with_lines run (opens (items ++ c ∷ []))
-with_moved items c d run n k l =
-    ap (with_lines []) (opens-push items d)
-    ∙ (rw (n, k, l, append-nil (component_lines c ++ run)) refl
-    ∙ sym (ap (with_lines run) (opens-push items c)))
-
 pub names-with : (cs : List Open) (run : Lines) → open_names (with_lines run cs) ≡ open_names cs
 names-with [] run = refl
 names-with (c ∷ cs) run = refl
@@ -131,9 +124,6 @@ ended_only old rest after run c closed done line r e s p l a b =
     subst (λ xs. Built (with_lines run (opens xs)) (Some c) (done ++ line ∷ [])) (sym none) (ended_last c closed done line e s (subst (λ cs. Built cs closed done) only b))
 
 -- ---- the names of the open components
-
-pub names-push : (xs : List Component) (x : Component) → open_names (opens (xs ++ x ∷ [])) ≡ component_name x ∷ open_names (opens xs)
-names-push xs x = ap open_names (opens-push xs x)
 
 -- ---- small facts of the reader
 

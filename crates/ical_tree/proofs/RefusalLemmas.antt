@@ -42,10 +42,6 @@ opened_from-push : (stack lines : List (List ℕ)) (line : List ℕ) → opened_
 opened_from-push stack [] line = refl
 opened_from-push stack (l ∷ lines) line = opened_from-push (now_open stack l) lines line
 
-is_none-push : (lines : List (List ℕ)) (line : List ℕ) → is_none (lines ++ line ∷ []) ≡ false
-is_none-push [] line = refl
-is_none-push (l ∷ lines) line = refl
-
 -- ---- what is built pairs up
 
 pub built_opened : (cs : List Open) (closed : Option Component) (done : List (List ℕ)) → Built cs closed done → opened done ≡ open_names cs

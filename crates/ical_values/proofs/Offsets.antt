@@ -57,12 +57,6 @@ pub minus_none : (text digits : List ℕ) → text ≡ 45 ∷ digits → ((size 
 minus_none text digits e f offset (d, size, s, inl h) = absurd (omega (arith, head 45 43 digits d text e h.0))
 minus_none text digits e f offset (d, size, s, inr h) = f size (rw (tail 45 45 digits d text e h.0) at s)
 
-pub minus_zero : (text digits : List ℕ) → text ≡ 45 ∷ digits → SpellsSize digits 0 → (offset : ℤ) → SpellsOffset text offset → ⊥
-minus_zero text digits e z offset (d, size, s, inl h) = absurd (omega (arith, head 45 43 digits d text e h.0))
-minus_zero text digits e z offset (d, size, s, inr h) =
-    let same = size_same digits 0 size z (rw (tail 45 45 digits d text e h.0) at s) in
-    absurd (omega (arith, same, h.1))
-
 pub sign_none : (text : List ℕ) → ((rest : List ℕ) → text ≢ 43 ∷ rest) → ((rest : List ℕ) → text ≢ 45 ∷ rest) → (offset : ℤ) → SpellsOffset text offset → ⊥
 sign_none text plus minus offset (d, size, s, inl h) = plus d h.0
 sign_none text plus minus offset (d, size, s, inr h) = minus d h.0

@@ -224,9 +224,6 @@ unsigned_weeks text body rest count product e (n, b, f) end g =
 pub unsigned_days : (text body : List ℕ) (d s : ℕ) → text ≡ 80 ∷ body → CountsDays body d s → CountsUnsigned text d s
 unsigned_days text body d s e (days, seconds, h, f, g) = (days, seconds, (body, inr h, e), f, g)
 
-pub unsigned_none : (text : List ℕ) → ((rest : List ℕ) → text ≡ 80 ∷ rest → ⊥) → (days seconds : ℕ) → SpellsUnsigned text days seconds → ⊥
-unsigned_none text f days seconds (counts, h, e) = f counts e
-
 pub unsigned_no_weeks : (text body : List ℕ) → text ≡ 80 ∷ body → ((n : ℕ) (rest : List ℕ) → BeginsNumber 87 body n rest → ⊥) → ((days seconds : ℕ) → SpellsDays body days seconds → ⊥) → (days seconds : ℕ) → SpellsUnsigned text days seconds → ⊥
 unsigned_no_weeks text body e f g days seconds u =
     elim (unsigned_of text body days seconds e u) [

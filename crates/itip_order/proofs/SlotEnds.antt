@@ -1,5 +1,5 @@
 -- Of parts in the order of their slots the last of each slot.
-use Rattle.std.proofs.Common.{◌≡◌, ◌∙◌, ◌⊎◌, inl, inr, ℕ, zero, suc, ◌<◌, ◌+◌, ◌-◌, Bool, true, false, if◌then◌else◌, List, [], ◌∷◌, ◌++◌, length, map, take, get_or, Some, Ordering, refl, sym, ap, subst, arith, rules}
+use Rattle.std.proofs.Common.{◌≡◌, ◌∙◌, ◌⊎◌, inl, inr, ℕ, zero, suc, ◌<◌, ◌+◌, ◌-◌, Bool, true, false, if◌then◌else◌, List, [], ◌∷◌, ◌++◌, length, map, take, get_or, Some, Ordering, refl, sym, ap, subst, arith}
 use Rattle.std.specs.Prelude.{AllPairs, Contains}
 use Rattle.std.specs.List.{slice_get}
 use Rattle.std.specs.List.Sorted.{IsSorted, IsPermutation}
@@ -8,7 +8,7 @@ use Rattle.std.specs.Cmp.{IsTotalOrder}
 use Rattle.std.specs.declared.cmp.Ordering.TheVariants.{Less, Equal, Greater}
 use Rattle.std.proofs.lemmas.Bool.{true≢false}
 use Rattle.std.proofs.lemmas.Cmp.{on_total, then_total, upto, tied_itself}
-use Rattle.std.proofs.lemmas.List.{length-append, get_or-append-add, get_or_append_left, take-append-le, take_all, append-nil}
+use Rattle.std.proofs.lemmas.List.{length-append, get_or_append_left, take-append-le, take_all}
 use Rattle.std.proofs.lemmas.List.Elements.{Contains-get_or, Contains-append_left, Contains-push, Contains-push_cases}
 use Rattle.std.proofs.lemmas.List.Sorted.{ranks_by, sorted_far, Contains-permutation, IsPermutation-sym}
 use Rattle.std.proofs.lemmas.Option.{slice_get_read}
@@ -47,9 +47,6 @@ back_gt : (o q : Ordering) → o ≡ ordering_reverse q → is_lt q ≡ false �
 back_gt o Less e f = absurd (true≢false f)
 back_gt o Equal e f = ap is_gt e
 back_gt o Greater e f = ap is_gt e
-
-less_no_eq : (o : Ordering) → o ≡ Less → is_eq o ≡ false
-less_no_eq o e = ap is_eq e
 
 module _ {X : Type 0} where
   -- a list is empty, or has a last element
@@ -192,9 +189,6 @@ module _ {Of : Type 0} (part : Of → Part) where
             | inl there ↦ (other, Contains-append_left front (one ∷ []) other there, same, up)
             | inr e ↦ (one, Contains-push front one, sym s ∙ ap (λ (o : Of). (part o).slot) e ∙ same, le_trans (part x) (part last) (part one) (subst (λ (o : Of). is_le (part_cmp (part x) (part o)) ≡ true) (sym e) up) le)
           ]
-
-  none_beaten : (done : List Of) → AreGreatest part done [] → (x : Of) → Contains done x → ⊥
-  none_beaten done g x c = let (other, d, _, _) = g.greatest x c in none_in_nil other d
 
   -- the last of these is of the slot, or not
   pub ends_push : (slot : Slot) (front : List Of) (last : Of) → ends_at part slot (front ++ last ∷ []) ≡ is_eq (slot_cmp (part last).slot slot)

@@ -5,7 +5,7 @@ use Rattle.std.specs.List.{filter, position, position_or_len, list_any, Contains
 use Rattle.std.specs.Map.{lookup}
 use Rattle.std.specs.Str.{bytes_eq}
 use Rattle.std.specs.Ordering.{is_eq}
-use Rattle.std.proofs.lemmas.Bool.{true≢false, and_parts, and_from, and_left, and_right, cases_Bool, cases_lt, lt-ltb, le-ltb, both_ways, false_from_ne_true, eqb-true, eq-eqb}
+use Rattle.std.proofs.lemmas.Bool.{true≢false, and_parts, and_from, and_left, cases_Bool, cases_lt, lt-ltb, le-ltb, both_ways, false_from_ne_true, eqb-true, eq-eqb}
 use Rattle.std.proofs.lemmas.Bool.Decides.{Decides-int_eq}
 use Rattle.std.proofs.lemmas.Cmp.{tied_itself}
 use Rattle.std.proofs.lemmas.List.Sums.{passes_at_first}
@@ -80,11 +80,6 @@ no_line (l ∷ ls) said h e = absurd (none_some l h)
 -- ---- one more answer
 
 module _ (keys : List Address) (stored : Stored) (replies : List Heard) where
-  -- to another SEQUENCE
-  pub heard_other : (h : Heard) (answers : Kept) → (h.revision.sequence == stored.revision.sequence) ≡ false → Seen keys stored replies answers → Seen keys stored (replies ++ h ∷ []) answers
-  heard_other h answers n seen = λ slot q.
-      subst (λ l. LatestOf l (answer_at (position (is_address q) keys) slot answers)) (sym (filter_no (answers_store stored slot q) replies h (and_right (bytes_eq h.uid stored.uid && bytes_eq h.attendee q && is_eq (slot_cmp h.slot slot)) _ n))) (seen slot q)
-
   -- to this one
   module _ (d : Address) (h : Heard) (place : ℕ) (new : AttendeeAnswer) (answers more : Kept) (own : bytes_eq h.uid stored.uid ≡ true) (now : (h.revision.sequence == stored.revision.sequence) ≡ true)
       (found : position (is_address h.attendee) keys ≡ Some place) (is : IsHeardAnswer h new)

@@ -5,14 +5,13 @@ use Rattle.std.specs.Prelude.{◌==◌}
 use Rattle.std.specs.List.{flat_map, list_any}
 use Rattle.std.specs.Map.{set_value, keys_of}
 use Rattle.std.specs.Str.{bytes_eq}
-use Rattle.std.proofs.lemmas.Bool.{or_parts, or_right, cases_Bool, eq-eqb, ne_eqb, both_ways}
+use Rattle.std.proofs.lemmas.Bool.{or_parts, or_right, cases_Bool, eq-eqb, both_ways}
 use Rattle.ical_values.specs.Octets.{address_octets}
 use Rattle.ical_values.specs.declared.address.Address.{Address}
 use Rattle.profile.specs.events.EventComponents.{Attendee}
 use Rattle.profile.specs.rooms.Kept.{each_once}
 use Rattle.organiser_books.specs.declared.attending.Attendance.{Attendance}
-use Rattle.organiser_books.specs.Attending.{Entries, addresses_in, attendance_of, is_address, names, noted_too, schedules_line, Attends, AreAttending, IsNoted, Noted, AreNoted, AreUntold, is_told_in}
-use Rattle.organiser_books.proofs.Loops.{any_push, flat_push}
+use Rattle.organiser_books.specs.Attending.{Entries, addresses_in, attendance_of, is_address, names, noted_too, schedules_line, IsNoted, Noted, AreNoted, AreUntold, is_told_in}
 use Rattle.organiser_books.proofs.Lines.{among_lines, all_unnamed, names_push, once_push, same_is, same_itself, schedules_other, schedules_own, unnamed}
 
 -- ---- look-ups
@@ -173,38 +172,6 @@ module _ (done : List (List Attendee)) (place : ℕ) (own : List Attendee) (a : 
       ]
 
 -- ---- components
-
--- before the first
-pub none_noted : (es : Entries) → es ≡ [] → AreNoted [] 0 [] es
-none_noted es e = subst (AreNoted [] 0 []) (sym e) (record { order = refl; each = λ q. refl })
-
--- before the next
-pub next_noted : (done : List (List Attendee)) (place : ℕ) (own : List Attendee) (es : Entries) → AreNoted done place own es → AreNoted (done ++ own ∷ []) (place + 1) [] es
-next_noted done place own es h = record {
-  order = h.order ∙ ap each_once (sym (append-nil _ ∙ flat_push addresses_in done own));
-  each = λ q. at_entry q (attendance_of q es) (h.each q);
-}
-  where
-    at_entry : (q : List ℕ) (r : Option Attendance) → Noted done place own q r → Noted (done ++ own ∷ []) (place + 1) [] q r
-    at_entry q None n = or_false _ ∙ any_push (names q) done own ∙ n
-    at_entry q (Some a) n = record {
-      named = or_false _ ∙ any_push (names q) done own ∙ n.named;
-      scheduled = n.scheduled ∙ sym (or_false _ ∙ any_push (schedules_line q) done own);
-      last = ne_eqb a.component (place + 1) (λ e. let up = n.up_to in omega (arith, e, up));
-      up_to = let up = n.up_to in omega (arith, up);
-      untold = n.untold;
-    }
-
--- after the last
-pub all_noted : (lists : List (List Attendee)) (place : ℕ) (es : Entries) → AreNoted lists place [] es → AreAttending lists es
-all_noted lists place es h = record {
-  order = h.order ∙ ap each_once (append-nil _);
-  each = λ q. at_entry q (attendance_of q es) (h.each q);
-}
-  where
-    at_entry : (q : List ℕ) (r : Option Attendance) → Noted lists place [] q r → Attends lists q r
-    at_entry q None n = sym (or_false _) ∙ n
-    at_entry q (Some a) n = record { named = sym (or_false _) ∙ n.named; scheduled = n.scheduled ∙ or_false _ }
 
 -- none of them was told yet
 pub none_told : (lists : List (List Attendee)) (place : ℕ) (es : Entries) → AreNoted lists place [] es → AreUntold es

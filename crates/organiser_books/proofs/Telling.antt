@@ -1,5 +1,5 @@
 -- Attendees in memory who were sent a message.
-use Rattle.std.proofs.Common.{◌≡◌, ◌∙◌, ℕ, Bool, true, false, ◌&&◌, ◌||◌, is_some, List, [], ◌∷◌, ◌++◌, map, Option, None, Some, refl, sym, ap, subst, inl, inr}
+use Rattle.std.proofs.Common.{◌≡◌, ◌∙◌, ℕ, Bool, true, false, ◌&&◌, ◌||◌, is_some, List, [], ◌∷◌, ◌++◌, Option, None, Some, refl, sym, ap, subst, inl, inr}
 use Rattle.std.specs.Prelude.{option_map}
 use Rattle.std.specs.List.{list_any}
 use Rattle.std.specs.Map.{keys_of, set_value}
@@ -7,10 +7,9 @@ use Rattle.std.specs.Str.{bytes_eq}
 use Rattle.std.proofs.lemmas.Bool.{both_ways, cases_Bool}
 use Rattle.std.proofs.Math.Bool.{or_assoc}
 use Rattle.std.proofs.lemmas.List.Folds.{list_any-append}
-use Rattle.ical_values.specs.Octets.{address_octets}
 use Rattle.profile.specs.events.EventComponents.{Attendee}
 use Rattle.organiser_books.specs.declared.attending.Attendance.{Attendance}
-use Rattle.organiser_books.specs.Attending.{AreAttending, AreSentTo, AreUntold, Attends, Entries, attendance_of, is_address, is_told, is_told_in, names, told_too}
+use Rattle.organiser_books.specs.Attending.{AreAttending, AreSentTo, AreUntold, Entries, attendance_of, is_address, is_told, is_told_in, names, told_too}
 use Rattle.organiser_books.proofs.Lines.{same_is, same_itself}
 use Rattle.organiser_books.proofs.Noting.{set_other, set_own}
 use Rattle.organiser_books.proofs.Said.{known_is}
@@ -68,30 +67,7 @@ told_known a es new known e k w = record {
       | inr none ↦ none
     ]
 
--- one who isn't
-pub told_unknown : (a : List ℕ) (es : Entries) → attendance_of a es ≡ None → AreSentTo (a ∷ []) es es
-told_unknown a es e = record {
-  order = refl;
-  each = λ q. elim (cases_Bool (bytes_eq q a)) [
-    | inl same ↦
-        let none : attendance_of q es ≡ None = ap (λ z. attendance_of z es) (same_is _ _ same) ∙ e in
-        none ∙ sym (ap (option_map (told_too (bytes_eq q a || false))) none)
-    | inr other ↦ sym (ap (λ (b : Bool). option_map (told_too (b || false)) (attendance_of q es)) other ∙ told_none (attendance_of q es))
-  ];
-}
-
 -- ---- whom they are
-
--- they are attendees as before
-pub told_attending : (lists : List (List Attendee)) (to : List (List ℕ)) (es new : Entries) → AreAttending lists es → AreSentTo to es new → AreAttending lists new
-told_attending lists to es new are t = record {
-  order = ap (map address_octets) t.order ∙ are.order;
-  each = λ q. subst (Attends lists q) (sym (t.each q)) (at_entry q (list_any (bytes_eq q) to) (attendance_of q es) (are.each q));
-}
-  where
-    at_entry : (q : List ℕ) (b : Bool) (r : Option Attendance) → Attends lists q r → Attends lists q (option_map (told_too b) r)
-    at_entry q b None h = h
-    at_entry q b (Some k) h = record { named = h.named; scheduled = h.scheduled }
 
 -- they are those of them who were told, where nobody was before
 pub told_are : (lists : List (List Attendee)) (to : List (List ℕ)) (es new : Entries) → AreAttending lists es → AreUntold es → AreSentTo to es new → (q : List ℕ) → is_told q new ≡ (list_any (names q) lists && list_any (bytes_eq q) to)

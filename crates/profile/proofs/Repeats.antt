@@ -85,20 +85,6 @@ alone_apart These from period width some s u clear = always These These (λ a c.
 
 -- ---- more periods, from a later instant on
 
-pub from_later : (Is : ℤ → ℤ → Type 0) (from later period : ℤ) → from ≤ℤ later → RepeatsFrom Is from period → RepeatsFrom Is later period
-from_later Is from later period most repeats start end least is = repeats start end (omega (arith, ints, most, least)) is
-
-pub some_periods : (Is : ℤ → ℤ → Type 0) (from : ℤ) (period count : ℕ) → RepeatsFrom Is from (pos period) → RepeatsFrom Is from (pos (count * period))
-some_periods Is from period zero repeats start end least is =
-    let n : 0 * period ≡ 0 = omega arith in
-    subst (λ x. Is x (end -ℤ pos (0 * period))) (int_eq_by (omega (arith, ints, n)) (omega (arith, ints, n))) (subst (λ x. Is start x) (int_eq_by (omega (arith, ints, n)) (omega (arith, ints, n))) is)
-some_periods Is from period (suc count) repeats start end least is =
-    let n : suc count * period ≡ period + count * period = omega arith in
-    let before = repeats start end (omega (arith, ints, least, n)) is in
-    let most = some_periods Is from period count repeats (start -ℤ pos period) (end -ℤ pos period) (omega (arith, ints, least, n)) before in
-    subst (λ x. Is x (end -ℤ pos (suc count * period))) (int_eq_by (omega (arith, ints, n)) (omega (arith, ints, n)))
-    (subst (λ x. Is ((start -ℤ pos period) -ℤ pos (count * period)) x) (int_eq_by (omega (arith, ints, n)) (omega (arith, ints, n))) most)
-
 -- ---- residues: where no arcs of two residues meet, nothing shares an instant, for ever
 
 sum_times : (k l m : ℕ) → (k + l) * m ≡ k * m + l * m

@@ -1,5 +1,5 @@
 -- The rooms of a box take a message, and their answers follow one another.
-use Rattle.std.proofs.Common.{◌≡◌, ◌||◌, Bool, true, false, inl, inr, ℕ, zero, suc, ◌+◌, ◌<◌, ◌≤◌, ℤ, List, [], ◌∷◌, ◌++◌, length, take, drop, get_or, set, Option, Some, None, refl, sym, ap, subst, ◌∙◌, arith, take_all, length-set, codes, decimal, Result, Ok, Err, OnOk}
+use Rattle.std.proofs.Common.{◌≡◌, ◌||◌, Bool, true, false, inl, inr, ℕ, zero, suc, ◌+◌, ◌<◌, ◌≤◌, ℤ, List, [], ◌∷◌, ◌++◌, length, take, drop, get_or, set, Option, Some, None, refl, sym, ap, subst, ◌∙◌, arith, take_all, length-set, codes, decimal}
 use Rattle.std.specs.Option.{option_to_list}
 use Rattle.std.specs.List.{flat_map, list_any}
 use Rattle.std.specs.Str.{bytes_eq}
@@ -15,7 +15,7 @@ use Rattle.profile.specs.events.Messages as profile
 use Rattle.profile.specs.events.Messages.{is_to_rooms}
 use Rattle.profile.specs.rooms.Messages.{is_add}
 use Rattle.profile.specs.rooms.Rooms as machine
-use Rattle.profile.specs.rooms.Rooms.{Book, Claim, IsStep}
+use Rattle.profile.specs.rooms.Rooms.{Book, Claim}
 use Rattle.profile.specs.rooms.Kept.{Replies, Refreshes}
 use Rattle.profile.specs.series.Zones.{Zone}
 use Rattle.profile.specs.streams.Reports.{AllBecome, is_change, is_repeat, is_stale}
@@ -196,9 +196,6 @@ pub record TakenSofar (moment : ℤ) (message : Message) (olds news : List Room)
   pub rest : drop i news ≡ drop i olds
   pub long : length news ≡ length olds
 
-pub taken_none : (moment : ℤ) (message : Message) (rooms : List Room) (octets : List ℕ) (effects : Effects) → AreEffects [] effects → TakenSofar moment message rooms rooms 0 octets octets effects
-taken_none moment message rooms octets effects none = record { octets = []; kinds = []; is = sym (append-nil octets); takes = (refl, refl); are = none; rest = refl; long = refl }
-
 -- apart, as nothing else is needed for them
 within_olds : (i m n : ℕ) → i < n → n ≡ m → i < m
 within_olds i m n l e = omega arith
@@ -296,8 +293,3 @@ line_is old one two three four new first second k n a b c d e f g =
 pub put_back : (len : ℕ) (xs ys : List Room) → len ≡ length ys → length xs ≡ length ys → take len (xs ++ drop (length xs) ys) ≡ xs
 put_back len xs ys len_is long =
     ap (λ z. take len (xs ++ z)) (drop_all (length xs) ys (omega arith)) ∙ ap (take len) (append-nil xs) ∙ take_all len xs (omega arith)
-
-pub sent_all : {A E : Type 0} (r : Result A E) (P : List ℕ → Type 0) (start mid new first second : List ℕ) → mid ≡ start ++ first → P (first ++ second) → OnOk r (new ≡ mid ++ second)
-    → OnOk r ((x : List ℕ) × (new ≡ start ++ x) × P x)
-sent_all (Ok u) P start mid new first second is p e = (first ++ second, e ∙ ap (λ z. z ++ second) is ∙ append_assoc start first second, p)
-sent_all (Err f) P start mid new first second is p e = tt

@@ -14,7 +14,7 @@ use Rattle.sched_devices.specs.declared.folder.FolderFault.TheVariants as folder
 use Rattle.profile.specs.streams.Folders.{AnswersFile, AnswersFiles, AreMessageFiles, AreNames, AreNamesSynced, AreSame, Elapses, File, Image, IsBeginning, LosesNamesAlone, MayBePublished, MessageFile, StopsBetweenFiles, Temporary, count_missing, octets_of, with_files}
 use Rattle.profile.specs.streams.Streams.{Box, Config as SaidConfig, new_box}
 use Rattle.sched_box.specs.Books.{AreBooksOf}
-use Rattle.sched_box.specs.Boxes.{AreEqual, IsBreak, IsNoDifference, NoneDiffers, Outbox, Runs}
+use Rattle.sched_box.specs.Boxes.{AreEqual, IsBreak, IsNoDifference, NoneDiffers, Runs}
 use Rattle.sched_box.specs.Running.{AnswersMessage, AnswersSofar, AreApart, Course, GoesOn, HasAnswered, HasEnded, IsGained, IsWhole, LeavesHeld, MayGain, RunsOver, Settles, Stands, answers_name, box_fault, file_of}
 use Rattle.sched_box.specs.declared.books.Books.{Books}
 use Rattle.sched_box.specs.declared.file_names.MessageName.{MessageName}
@@ -471,28 +471,6 @@ run_over hosts now course files news m0 m3 exact ls2 ls3 ml0 ml3 known books are
       so.left,
       so.breaks,
     )
-
--- the run ended before the first message was answered
-pub run_none : (inbox : Image) (hosts : SaidConfig) (outbox : Outbox) (ml0 ml3 : Image → Type 0) (ls3 : ℕ → Image → Type 0) (f : FolderFault) (r : Result BoxReport BoxFault) (e : BoxFault) → r ≡ Err e → e ≡ box_fault f
-    → AreSame outbox.now outbox.start → ((left : Image) → ls3 outbox.first left → ml0 left) → Runs inbox hosts outbox ml0 ml3 ls3 r
-run_none inbox hosts outbox ml0 ml3 ls3 f r e is from same stops = let P : Result BoxReport BoxFault → Type 0 = Runs inbox hosts outbox ml0 ml3 ls3 in subst P (sym (is ∙ ap Err from)) (inl (same, stops, at f))
-  where
-    at : (f : FolderFault) → IsNoDifference (box_fault f)
-    at folder.Device = tt
-    at folder.Missing = tt
-    at folder.Exists = tt
-    at folder.Memory = tt
-
--- what a stop since the beginning might have left, once the folder is synced, and once it is listed
-pub since_sync : (m0 m1 : ℕ) (ls0 ls1 : ℕ → Image → Type 0) (ml0 ml1 : Image → Type 0) → Elapses m0 m1 ls0 ls1 ml1 → ((left : Image) → ls0 m0 left → ml0 left) → ((left : Image) → ml1 left → ml0 left)
-    → (left : Image) → ls1 m0 left → ml0 left
-since_sync m0 m1 ls0 ls1 ml0 ml1 sync only fewer left since = elim (sync.nothing_else m0 left (omega arith) since) [ inl past ↦ only left past | inr may ↦ fewer left may ]
-
-pub since_names : (m0 m1 m2 : ℕ) (ls0 ls1 ls2 : ℕ → Image → Type 0) (ml0 ml1 ml2 : Image → Type 0) → Elapses m0 m1 ls0 ls1 ml1 → Elapses m1 m2 ls1 ls2 ml2
-    → ((left : Image) → ls0 m0 left → ml0 left) → ((left : Image) → ml1 left → ml0 left) → ((left : Image) → ml2 left → ml1 left) → (left : Image) → ls2 m0 left → ml0 left
-since_names m0 m1 m2 ls0 ls1 ls2 ml0 ml1 ml2 sync names only fewer less left since =
-    let a = sync.later in
-    elim (names.nothing_else m0 left (omega arith) since) [ inl past ↦ since_sync m0 m1 ls0 ls1 ml0 ml1 sync only fewer left past | inr may ↦ fewer left (less left may) ]
 
 -- ---- the outbox's names
 

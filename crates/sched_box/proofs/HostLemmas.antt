@@ -4,9 +4,8 @@ use Rattle.std.specs.List.{AllZip, list_any}
 use Rattle.std.specs.Option.{IsNone}
 use Rattle.std.specs.Str.{bytes_eq}
 use Rattle.std.proofs.lemmas.Bool.{or_parts}
-use Rattle.std.proofs.lemmas.List.Elements.{filter-append, filter_passes}
+use Rattle.std.proofs.lemmas.List.Elements.{filter-append}
 use Rattle.std.proofs.lemmas.List.Folds.{list_any_at}
-use Rattle.std.proofs.lemmas.List.Kept.{AllPairs-cons, AllPairs-filter}
 use Rattle.std.proofs.lemmas.Slice.Eq.{bytes_eq-Decides}
 use Rattle.std.proofs.lemmas.List.{append-nil, map-append, take_more}
 use Rattle.ical_values.specs.Octets.{address_octets}
@@ -104,17 +103,6 @@ once_each [] differ = refl
 once_each (x ∷ xs) differ =
     ap (λ list. x ∷ filter (λ other. not (bytes_eq x other)) list) (once_each xs (λ i j d less within. differ (suc i) (suc j) d (omega arith) (omega arith)))
     ∙ ap (λ list. x ∷ list) (is_other x xs (λ k d l. differ 0 (suc k) d (omega arith) (omega arith)))
-
--- and those that are each once differ
-pub once_differ : (xs : List (List ℕ)) → AllPairs ◌≢◌ (each_once xs)
-once_differ [] = λ i j d less within same. omega (arith, less, within)
-once_differ (x ∷ xs) =
-    AllPairs-cons ◌≢◌ x (filter other (each_once xs))
-    (λ k d l same. true≢false (sym (filter_passes other (each_once xs) k d l) ∙ ap not ((bytes_eq-Decides x (get_or (filter other (each_once xs)) k d)).1 same)))
-    (AllPairs-filter ◌≢◌ other (each_once xs) (once_differ xs))
-  where
-    other : List ℕ → Bool
-    other y = not (bytes_eq x y)
 
 -- ---- rooms, of each address the first
 

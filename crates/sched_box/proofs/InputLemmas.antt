@@ -1,11 +1,8 @@
 -- What is taken of an input, from what it lends.
-use Rattle.std.proofs.Common.{◌≡◌, ◌≤◌, ℕ, Bool, false, List, [], ◌∷◌, ◌++◌, take, length, Option, Some, None, IfSome, OnSome, ap, sym, subst, ◌∙◌, arith}
+use Rattle.std.proofs.Common.{◌≡◌, ◌≤◌, ℕ, List, [], ◌∷◌, ◌++◌, take, length, Option, Some, None, IfSome, OnSome, ap, sym, subst, ◌∙◌, arith}
 use Rattle.std.proofs.lemmas.Bool.{true≢false}
 use Rattle.std.specs.Io.{StartsWith}
 use Rattle.std.specs.Io.KnownBytes.{Consumes, Keeps, IsAtEnd}
-use Rattle.sched_box.specs.Faults.{StopsFor}
-use Rattle.sched_box.specs.declared.fault.ServeFault.{ServeFault}
-use Rattle.sched_box.specs.declared.fault.ServeFault.TheVariants.{Read, Write, TooLong, Memory}
 
 -- a reader that kept its octets lends their front; what is taken of what it lends is taken of it; where it lends nothing it is at its end
 pub record TakesOf (a c : Option (List ℕ)) (lent : List ℕ) (count : ℕ) : Type 0 where
@@ -31,10 +28,3 @@ taken_of a b c lent shown count is kept front end consumes within =
       front = subst (λ (l : List ℕ). StartsWith l lent) kept front;
       moved = (sym kept ∙ taken, λ none. second (take count lent) zs (sym taken ∙ end none));
     }
-
--- what only the reader can stop isn't stopped by another writer's failure
-pub whatever_writer : (reader writer : Bool) (f : ServeFault) → StopsFor reader false f → StopsFor reader writer f
-whatever_writer reader writer Read h = h
-whatever_writer reader writer Write h = absurd (true≢false (sym h))
-whatever_writer reader writer TooLong h = tt
-whatever_writer reader writer Memory h = tt

@@ -19,9 +19,6 @@ use Rattle.sched_box.specs.Objects.{kept_of, Cuts, IsPieceEnd, IsPieceFault, Lea
 
 -- ---- leading on
 
-pub cuts_none : (c : Cutter) → Cuts c [] c
-cuts_none c = record { rest = λ more. refl; begun = λ more. refl; none = λ e. refl }
-
 nil_left : (xs ys : List ℕ) → xs ++ ys ≡ [] → xs ≡ []
 nil_left [] ys e = refl
 nil_left (x ∷ xs) ys e = absurd (cc)

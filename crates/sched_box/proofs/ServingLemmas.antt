@@ -17,16 +17,14 @@ use Rattle.sched_box.specs.Books.{AnswersKept, AnswersKeptAs, AreBooksOf, hosted
 use Rattle.sched_box.specs.declared.books.Books.{Books}
 use Rattle.sched_devices.specs.Input.{IsFilledWithin}
 use Rattle.sched_box.specs.Objects.{kept_of, IsStop, TakesNextObject, ReadsObject, StopsReading}
-use Rattle.sched_box.specs.Serving.{AnswersWhole, Ends, Gives, GivesPart, GivesRead, IsWithin, IsWithinBound, ServesAll, ServesSome, HasRead, ServesUntil, Serves, BooksServe, ServesStream, KeepsTexts, StopsKeeping, StopsWithin, TellsAll, TellsStream}
+use Rattle.sched_box.specs.Serving.{Ends, Gives, GivesPart, GivesRead, IsWithin, IsWithinBound, ServesAll, ServesSome, HasRead, ServesUntil, Serves, BooksServe, KeepsTexts, StopsKeeping, StopsWithin, TellsAll}
 use Rattle.profile.specs.rooms.Kept.{IsKeptCalendar, IsKeptCertificate}
 use Rattle.cal_zones.specs.RoomZones.{words_of}
 use Rattle.ical_values.specs.Octets.{address_octets}
 use Rattle.room_books.specs.Room.{Represents}
-use Rattle.sched_box.specs.declared.fault.StreamFault.{StreamFault}
 use Rattle.sched_box.specs.declared.fault.StreamFault.TheVariants as stream
-use Rattle.sched_box.specs.Faults.{IfRefusedStream, IsReadFault, StopsFor}
+use Rattle.sched_box.specs.Faults.{StopsFor}
 use Rattle.sched_box.specs.Sending.{StopsSending}
-use Rattle.sched_box.specs.Preamble.{OpensStream, OpensNot, StopsInPreamble}
 use Rattle.cal_events.proofs.shared_lemmas.SeriesLemmas.{zip_with}
 use Rattle.sched_box.proofs.ObjectLemmas.{after_short}
 use Rattle.sched_box.proofs.ToldLemmas.{as_more, told_more}
@@ -208,13 +206,6 @@ filled_within most (Some xs) (Some ys) (Some zs) objects lent paid old new fills
 pub filled_none : (more n : ℕ) (a : Option (List ℕ)) → IsFilledWithin more n n a a
 filled_none more n None = tt
 filled_none more n (Some xs) = omega arith
-
--- in two parts, a preamble and what follows it
-pub filled_trans : (first second f g h : ℕ) (a b c : Option (List ℕ)) (taken : List ℕ) → Consumes a b taken → IsFilledWithin first f g a b → IsFilledWithin second g h b c → IsFilledWithin (first + second) f h a c
-filled_trans first second f g h None b c taken consumed before behind = tt
-filled_trans first second f g h (Some xs) None c taken consumed before behind = absurd consumed
-filled_trans first second f g h (Some xs) (Some ys) None taken consumed before behind = tt
-filled_trans first second f g h (Some xs) (Some ys) (Some zs) taken consumed before behind = omega (arith, before, behind)
 
 pub filled_more : (few more f g : ℕ) (a b : Option (List ℕ)) → few ≤ more → IsFilledWithin few f g a b → IsFilledWithin more f g a b
 filled_more few more f g None b less h = tt
@@ -480,50 +471,6 @@ serves_none moment before input output fault is =
 
 -- ---- a stream with its preamble
 
-pub stream_refused : (a left output : Option (List ℕ)) (f : StreamFault) → IfRefusedStream (IfSome a OpensNot) f → StopsInPreamble a left → IsReadFault f → ServesStream (record { input = a; left = left; output = output; written = output }) (Err f)
-stream_refused a left output (stream.Refused r) h stops reads = (h, stops, kept output)
-  where
-    kept : (o : Option (List ℕ)) → Keeps o o
-    kept None = tt
-    kept (Some xs) = refl
-stream_refused a left output (stream.Serve f) h stops reads = inl (reads, stops, kept output)
-  where
-    kept : (o : Option (List ℕ)) → Keeps o o
-    kept None = tt
-    kept (Some xs) = refl
-
-pub stream_stopped : (a mid left output written : Option (List ℕ)) (moment : ℤ) (hosts : Config) (fault : ServeFault) (f : StreamFault) → OpensStream a mid moment hosts → f ≡ stream.Serve fault
-    → Serves moment (new_box hosts) (record { input = mid; left = left; output = output; written = written }) (Err fault)
-    → ServesStream (record { input = a; left = left; output = output; written = written }) (Err f)
-stream_stopped a mid left output written moment hosts fault f opens is h =
-    let P : StreamFault → Type 0 = λ x. ServesStream (record { input = a; left = left; output = output; written = written }) (Err x) in
-    subst P (sym is) (inr (moment, hosts, mid, opens, h))
-
-pub stream_served : (a mid left output written : Option (List ℕ)) (moment : ℤ) (hosts : Config) (report : ServeReport) → OpensStream a mid moment hosts
-    → Serves moment (new_box hosts) (record { input = mid; left = left; output = output; written = written }) (Ok report)
-    → ServesStream (record { input = a; left = left; output = output; written = written }) (Ok report)
-stream_served a mid left output written moment hosts report opens (after, all) = (moment, hosts, mid, after, opens, all)
-
--- the stream is its preamble and its objects
-pub stream_whole : (a mid left output written : Option (List ℕ)) (moment : ℤ) (hosts : Config) (report : ServeReport) → OpensStream a mid moment hosts
-    → Serves moment (new_box hosts) (record { input = mid; left = left; output = output; written = written }) (Ok report)
-    → AnswersWhole (record { input = a; left = left; output = output; written = written })
-stream_whole None mid left output written moment hosts report opens h = tt
-stream_whole (Some xs) None left output written moment hosts report opens h = absurd opens.consumed
-stream_whole (Some xs) (Some ys) left output written moment hosts report opens (after, all) = (
-  all.octets,
-  record {
-    moment = moment;
-    hosts = hosts;
-    objects = all.objects;
-    after = after;
-    refused = report.refused;
-    is = record { preamble = opens.preamble; rest = ys; closed = opens.closed; is = opens.consumed; says = opens.says; all = opens.all; objects_are = all.are };
-    answers = all.answers;
-  },
-  all.written,
-)
-
 -- ---- one room
 
 -- what is kept of a room is the texts of its book
@@ -642,8 +589,3 @@ pub tells_from : {Told : Type 0} (Tells : Told → ℕ → List ℕ → Fate →
     → IfOk r (λ report. (after : Box) × AreBooksOf news after × TellsAll Tells old now moment before after ends report) → IfOk r (λ report. (after : Box) × TellsAll Tells old now moment before after ends report)
 tells_from Tells old now moment before news ends (Ok report) (after, hosted, tells) = (after, tells)
 tells_from Tells old now moment before news ends (Err fault) h = tt
-
-pub stream_tells : {Told : Type 0} (Tells : Told → ℕ → List ℕ → Fate → Told → Type 0) (old new : Told) (a mid left output written : Option (List ℕ)) (moment : ℤ) (hosts : Config) (report : ServeReport) → OpensStream a mid moment hosts
-    → (after : Box) × TellsAll Tells old new moment (new_box hosts) after (record { input = mid; left = left; output = output; written = written }) report
-    → TellsStream Tells old new (record { input = a; left = left; output = output; written = written }) report
-stream_tells Tells old new a mid left output written moment hosts report opens (after, tells) = record { moment = moment; hosts = hosts; rest = mid; after = after; opens = opens; tells = tells }

@@ -1,12 +1,11 @@
 -- What was handed on, piece by piece, and what was said of it.
-use Rattle.std.proofs.Common.{◌≡◌, ◌⊎◌, inl, inr, ℕ, Bool, true, false, List, [], ◌∷◌, ◌++◌, take, get_or, map, length, ◌<◌, ◌+◌, Option, Result, Ok, Err, OnOk, IfOk, IfErr, sym, ap, subst, ◌∙◌, refl, arith, append-nil, append_assoc}
-use Rattle.std.specs.Io.KnownBytes.{Appends}
+use Rattle.std.proofs.Common.{◌≡◌, ◌⊎◌, inl, inr, ℕ, Bool, true, List, [], ◌∷◌, ◌++◌, take, get_or, map, length, ◌<◌, ◌+◌, Option, sym, ap, subst, ◌∙◌, refl, arith, append-nil, append_assoc}
 use Rattle.std.proofs.KnownBytes.{Keeps-refl}
 use Rattle.profile.specs.text.Trees.{Tree}
 use Rattle.sched_doors.specs.Handing.{Passes}
 use Rattle.sched_cli.specs.declared.adapt.AdaptFault.{AdaptFault}
 use Rattle.sched_cli.specs.declared.adapt.AdaptFault.TheVariants.{Device, Memory}
-use Rattle.sched_cli.specs.Adapting.{AdaptStopsFor, AdaptsFront, AdaptsWhole, CutsNext, HandsOnAll, KeepsMark, KeepsMarks, PassesOn, StopsPassing, StopsPutting, adapt_status, adapt_text, adapted_text, goes_on_text, more}
+use Rattle.sched_cli.specs.Adapting.{AdaptStopsFor, AdaptsFront, HandsOnAll, KeepsMarks, PassesOn, adapt_status, adapt_text, adapted_text, goes_on_text, more}
 use Rattle.std.specs.List.{flat_map}
 use Rattle.std.proofs.lemmas.List.{map-append, take_more}
 use Rattle.std.proofs.lemmas.Grind.{flat_map-append}
@@ -14,57 +13,12 @@ use Rattle.sched_cli.specs.Commands.{IsStatusSaid, SaysLine}
 
 -- ---- a piece
 
-pub passes_on : (listed : Option Tree) (old new output written : Option (List ℕ)) (is_adapted : Bool) (going_on : List (List ℕ)) (handed lent : List ℕ) (r : Result Bool AdaptFault)
-    → lent ≡ handed → Passes listed old new is_adapted going_on handed → OnOk r (Appends output written lent) → IfOk r (λ goes. goes ≡ false → lent ≡ [])
-    → IfOk r (PassesOn listed old new output written)
-passes_on listed old new output written is_adapted going_on handed lent (Ok goes) is passes put end = record {
-  is_adapted = is_adapted;
-  going_on = going_on;
-  handed = handed;
-  passes = passes;
-  appended = subst (Appends output written) is put;
-  end = λ ends. sym is ∙ end ends;
-}
-passes_on listed old new output written is_adapted going_on handed lent (Err fault) is passes put end = tt
-
-pub stops_passing : (listed : Option Tree) (old new output written : Option (List ℕ)) (is_adapted : Bool) (going_on : List (List ℕ)) (handed lent : List ℕ) (failed : Bool) (r : Result Bool AdaptFault)
-    → lent ≡ handed → Passes listed old new is_adapted going_on handed → IfErr r (StopsPutting output written failed lent) → IfErr r (StopsPassing listed old output written)
-stops_passing listed old new output written is_adapted going_on handed lent failed (Ok goes) is passes stops = tt
-stops_passing listed old new output written is_adapted going_on handed lent failed (Err Device) is passes (f, (n, cut)) = inr (record {
-  left = new;
-  is_adapted = is_adapted;
-  going_on = going_on;
-  handed = handed;
-  passes = passes;
-  count = n;
-  cut = subst (λ (l : List ℕ). Appends output written (take n l)) is cut;
-})
-stops_passing listed old new output written is_adapted going_on handed lent failed (Err Memory) is passes kept = kept
-
-pub stops_for : (output written : Option (List ℕ)) (reader writer : Bool) (lent : List ℕ) (r : Result Bool AdaptFault) → IfErr r (StopsPutting output written writer lent) → IfErr r (AdaptStopsFor reader writer)
-stops_for output written reader writer lent (Ok goes) stops = tt
-stops_for output written reader writer lent (Err Device) stops = inr stops.0
-stops_for output written reader writer lent (Err Memory) stops = tt
-
-pub keeps_marks : (reader_before reader writer_before writer : Bool) (r : Result Bool AdaptFault) → reader ≡ reader_before → IfErr r (KeepsMark writer_before writer)
-    → IfErr r (KeepsMarks reader_before reader writer_before writer)
-keeps_marks reader_before reader writer_before writer (Ok goes) same kept = tt
-keeps_marks reader_before reader writer_before writer (Err Device) same kept = tt
-keeps_marks reader_before reader writer_before writer (Err Memory) same kept = (same, kept)
-
 -- ---- all pieces
 
 pub one_more : (listed now : Option Tree) (input mid left output sofar written : Option (List ℕ)) (goes : Bool) → now ≡ listed → HandsOnAll listed input mid output sofar
     → PassesOn now mid left sofar written goes → HandsOnAll listed input left output written
 one_more listed now input mid left output sofar written goes same all p =
     more input mid left output sofar written p.is_adapted p.going_on p.handed all (subst (λ l. Passes l mid left p.is_adapted p.going_on p.handed) same p.passes) p.appended
-
-pub adapts_front : (listed now : Option Tree) (input mid output sofar written : Option (List ℕ)) (status : ℕ) (fault : AdaptFault) → now ≡ listed → HandsOnAll listed input mid output sofar
-    → status ≡ adapt_status fault → StopsPassing now mid sofar written fault → AdaptsFront status listed input output written
-adapts_front listed now input mid output sofar written status Device same all is (inl kept) = record { before = mid; sofar = sofar; all = all; rest = inl kept }
-adapts_front listed now input mid output sofar written status Device same all is (inr cut) =
-    record { before = mid; sofar = sofar; all = all; rest = inr (is, subst (λ l. CutsNext l mid sofar written) same cut) }
-adapts_front listed now input mid output sofar written status Memory same all is kept = record { before = mid; sofar = sofar; all = all; rest = inl kept }
 
 pub blames : (reader writer : Bool) (status : ℕ) (fault : AdaptFault) → status ≡ adapt_status fault → AdaptStopsFor reader writer fault → status ≡ 4 → (reader ≡ true) ⊎ (writer ≡ true)
 blames reader writer status Device is stops e = stops
@@ -87,16 +41,6 @@ said_of status Memory a b lost is says = record { quiet = λ l. absurd (omega (a
 pub whole_pieces : (listed : Option Tree) (input mid output sofar : Option (List ℕ)) (status : ℕ) → HandsOnAll listed input mid output sofar → AdaptsFront status listed input output sofar
 whole_pieces listed input mid output sofar status all = record { before = mid; sofar = sofar; all = all; rest = inl (Keeps-refl sofar) }
 
--- and all of them
-pub whole_input : (listed now : Option Tree) (input mid left output sofar written : Option (List ℕ)) (goes : Bool) → now ≡ listed → goes ≡ false → HandsOnAll listed input mid output sofar
-    → PassesOn now mid left sofar written goes → AdaptsWhole listed input left output written
-whole_input listed now input mid left output sofar written goes same ends all p = record {
-  before = mid;
-  sofar = sofar;
-  all = all;
-  last = subst (PassesOn listed mid left sofar written) ends (subst (λ l. PassesOn l mid left sofar written goes) same p);
-}
-
 -- ---- what is said of an object
 
 pub all_names : (number : ℕ) (names : List (List ℕ)) → (names ≡ [] → ⊥) → adapted_text number names ≡ flat_map (goes_on_text number) names
@@ -112,7 +56,3 @@ one_name f h xs i d out now new l e g =
     let texts : flat_map f (map h (take (i + 1) xs)) ≡ flat_map f (map h (take i xs)) ++ f (h x) =
     ap (flat_map f) names ∙ flat_map-append f (map h (take i xs)) (h x ∷ []) ∙ ap (λ (z : List ℕ). flat_map f (map h (take i xs)) ++ z) (append-nil (f (h x))) in
     g ∙ ap (λ (z : List ℕ). z ++ f (h x)) e ∙ append_assoc out (flat_map f (map h (take i xs))) (f (h x)) ∙ ap (λ (z : List ℕ). out ++ z) (sym texts)
-
-pub some_names : {X : Type 0} (h : X → List ℕ) (xs : List X) → (xs ≡ [] → ⊥) → map h xs ≡ [] → ⊥
-some_names h [] some none = some refl
-some_names h (x ∷ xs) some none = absurd (cc)

@@ -17,11 +17,6 @@ three_joined old one two new a b c e f g = two_joined one two new b c f g ∙ ap
 pub four_joined : (old one two three new a b c d : List ℕ) → one ≡ old ++ a → two ≡ one ++ b → three ≡ two ++ c → new ≡ three ++ d → new ≡ old ++ (a ++ (b ++ (c ++ d)))
 four_joined old one two three new a b c d e f g h = three_joined one two three new b c d f g h ∙ ap (λ z. z ++ (b ++ (c ++ d))) e ∙ append_assoc old a (b ++ (c ++ d))
 
-pub five_joined : (old one two three four new a b c d e : List ℕ) → one ≡ old ++ a → two ≡ one ++ b → three ≡ two ++ c → four ≡ three ++ d → new ≡ four ++ e
-    → new ≡ old ++ (a ++ (b ++ (c ++ (d ++ e))))
-five_joined old one two three four new a b c d e p q r s t =
-    four_joined one two three four new b c d e q r s t ∙ ap (λ z. z ++ (b ++ (c ++ (d ++ e)))) p ∙ append_assoc old a (b ++ (c ++ (d ++ e)))
-
 -- what the door makes of the octets: they are handed on as they are, or an object is made
 pub helps : (octets old one new : List ℕ) (going_on : List (List ℕ)) (adapted shown : List ℕ) → IsAdapted None octets going_on adapted → shown ≡ adapted
     → one ≡ old ++ codes " `roombox adapt` makes an object of it that is " → (ending : List ℕ) × IsEnding shown ending × (new ≡ one ++ ending) → (help : List ℕ) × IsHelp octets help × (new ≡ old ++ help)

@@ -3,11 +3,10 @@ use Rattle.std.proofs.Common.{◌≡◌, ◌∙◌, ap, sym, refl, subst, ℕ, z
 use Rattle.std.specs.Prelude.{Option, Some, None, IfSome, Contains, ◌||◌}
 use Rattle.std.specs.Option.{is_none}
 use Rattle.std.proofs.lemmas.List.{take_rest}
-use Rattle.ical_tree.proofs.OneLine.{at_one}
 use Rattle.ical_tree.specs.Tree.{component_name, component_lines, component_children}
 use Rattle.ical_tree.specs.declared.component.Component.{Component}
-use Rattle.profile.specs.events.Properties.{lines_named, IsMissing, OccursMoreThanOnce, SomeLine}
-use Rattle.profile.specs.series.ZoneTexts.{IsFixedLine, OffsetsDiffer, PartsFault, TimesFault, is_part, is_standard, is_daylight, time_names, dates, missing, twice, fixed, bad_start, bad_from, bad_to, no_part, in_part, ruled, other_parts, unruled, unmatched, close}
+use Rattle.profile.specs.events.Properties.{lines_named}
+use Rattle.profile.specs.series.ZoneTexts.{OffsetsDiffer, PartsFault, TimesFault, is_part, is_standard, is_daylight, time_names, no_part, in_part, ruled, other_parts, unruled, unmatched, close}
 use Rattle.cal_zones.specs.Read.{HasZoneFault, daylights_of, standards_of, zone_parts, parts_in}
 use Rattle.cal_zones.proofs.PartLemmas.{all_left, drop_other, drop_part}
 use Rattle.sched_cli.specs.Obstacles.{StandsBehind, IsFirstLine, IsLocalOnce, IsOnce, IsNthPart, IsSecondLine, named}
@@ -20,12 +19,6 @@ one_of (y ∷ ys) x (others, e) none = e ∙ ap (λ zs. x ∷ zs) (sym (ap (drop
 
 never_none : {A : Type 0} (x : A) (xs : List A) → x ∷ xs ≡ [] → ⊥
 never_none x xs e = cc
-
-once_missing : (name : List ℕ) (part : List (List ℕ)) → IsOnce name part → IsMissing name part → ⊥
-once_missing name part (line, once) none = never_none line [] (sym once ∙ none)
-
-once_twice : (name : List ℕ) (part : List (List ℕ)) → IsOnce name part → OccursMoreThanOnce name part → ⊥
-once_twice name part (line, once) many = omega (arith, subst (λ (l : List (List ℕ)). 1 < length l) once many)
 
 -- one that is there, and no second
 pub once_there : {X : Type 0} (text : X → List ℕ) (name one two : List ℕ) (lines : List (List ℕ)) (r : Option X) → one ≡ name → two ≡ name → is_none r ≡ false
@@ -51,22 +44,6 @@ each_once part (line, once, local) from to name (zero, w, e) = subst (λ (n : Li
 each_once part start from to name (suc zero, w, e) = subst (λ (n : List ℕ). IsOnce n part) e from
 each_once part start from to name (suc (suc zero), w, e) = subst (λ (n : List ℕ). IsOnce n part) e to
 each_once part start from to name (suc (suc (suc k)), w, e) = absurd (omega arith)
-
-never_fixed : (part : List (List ℕ)) → IsLocalOnce part → SomeLine (codes "DTSTART") IsFixedLine part → ⊥
-never_fixed part (first, once, local) (line, there, is) =
-    local (subst IsFixedLine (sym (at_one first line (subst (λ (l : List (List ℕ)). Contains l line) once there))) is)
-
-right_by : (part : List (List ℕ)) (n : ℕ) → n ≡ 40 → IsMissing (codes "RDATE") part → IsLocalOnce part → IsOnce (codes "TZOFFSETFROM") part → IsOnce (codes "TZOFFSETTO") part → TimesFault part n → ⊥
-right_by part n e none start from to (dates some) = some none
-right_by part n e none start from to (missing name there gone) = once_missing name part (each_once part start from to name there) gone
-right_by part n e none start from to (twice name there many) = once_twice name part (each_once part start from to name there) many
-right_by part n e none start from to (fixed h) = never_fixed part start h
-right_by part n e none start from to (bad_start h) = absurd (omega (arith, e))
-right_by part n e none start from to (bad_from h) = absurd (omega (arith, e))
-right_by part n e none start from to (bad_to h) = absurd (omega (arith, e))
-
-pub times_right : (part : List (List ℕ)) → IsMissing (codes "RDATE") part → IsLocalOnce part → IsOnce (codes "TZOFFSETFROM") part → IsOnce (codes "TZOFFSETTO") part → TimesFault part 40 → ⊥
-times_right part = right_by part 40 refl
 
 -- ---- the offsets differ, where a VTIMEZONE is refused and the times of its parts are right
 

@@ -1,13 +1,11 @@
 -- The VTIMEZONE that an object is refused for.
-use Rattle.std.proofs.Common.{◌≡◌, ◌∙◌, ap, sym, refl, subst, ℕ, zero, suc, ◌<◌, true, List, ◌∷◌, length, get_or, codes, arith}
+use Rattle.std.proofs.Common.{◌≡◌, ◌∙◌, ap, sym, subst, ℕ, suc, ◌<◌, true, List, ◌∷◌, arith}
 use denote.Ref.{Bor}
 use Rattle.std.specs.Prelude.{Option, Some, option_map, Contains}
-use Rattle.ical_tree.specs.Tree.{component_children, component_lines, component_name, tree_of}
+use Rattle.ical_tree.specs.Tree.{tree_of}
 use Rattle.ical_tree.specs.declared.component.Component.{Component}
-use Rattle.profile.specs.text.Lines.{is_same_name, line_param}
 use Rattle.profile.specs.text.Trees.{Tree}
 use Rattle.profile.specs.doors.Uses.{is_time_line}
-use Rattle.profile.specs.events.ZonedTimes.{zone_named}
 use Rattle.profile.specs.series.ZoneTexts.{PartsFault, ZoneFault, parts_by, is_part, is_standard, is_daylight}
 use Rattle.cal_zones.specs.Read.{HasZoneFault, daylights_of, standards_of, zone_parts}
 use Rattle.cal_zones.proofs.PartLemmas.{parts_tree}
@@ -29,17 +27,6 @@ same_text r name o e f = sym f ∙ ap (option_map (λ x. x.now)) e
 same_zone : (r : Option (Bor Component)) (zone : Bor Component) (o : Option Tree) → r ≡ Some zone → option_map (λ z. tree_of z.now) r ≡ o → o ≡ Some (tree_of zone.now)
 same_zone r zone o e f = sym f ∙ ap (option_map (λ z. tree_of z.now)) e
 
--- a line that names it
-pub refused_as : (object : Tree) (line : List ℕ) (n : ℕ) (param : Option (Bor (List ℕ))) (name : Bor (List ℕ)) (found : Option (Bor Component)) (zone : Bor Component) → param ≡ Some name
-    → option_map (λ x. x.now) param ≡ line_param (codes "TZID") line → found ≡ Some zone → option_map (λ z. tree_of z.now) found ≡ zone_named name.now object → ZoneFault (tree_of zone.now) n
-    → IsRefusedAs object line n zone.now
-refused_as object line n param name found zone e f g h fault = record {
-  name = name.now;
-  param = same_text param name (line_param (codes "TZID") line) e f;
-  meant = same_zone found zone (zone_named name.now object) g h;
-  fault = fault;
-}
-
 -- a line of a VEVENT that does
 pub refused_by : (object : Tree) (lines : List (List ℕ)) (line : List ℕ) (n : ℕ) (zone : Component) → Contains lines line → is_time_line line ≡ true → IsRefusedAs object line n zone → RefusedBy object lines n zone
 refused_by object lines line n zone among says found = record {
@@ -50,21 +37,11 @@ refused_by object lines line n zone among says found = record {
   fault = found.fault;
 }
 
--- the first of the lines that are left, and the others
-pub first_among : (all left rest : List (List ℕ)) (line : List ℕ) → ((x : List ℕ) → Contains left x → Contains all x) → left ≡ line ∷ rest → Contains all line
-first_among all left rest line inside e = inside line (subst (λ (l : List (List ℕ)). Contains l line) (sym e) (zero, omega arith, refl))
-
 rest_there : (line x : List ℕ) (rest : List (List ℕ)) → Contains rest x → Contains (line ∷ rest) x
 rest_there line x rest (k, w, e) = (suc k, omega (arith, w), e)
 
 pub rest_among : (all left rest : List (List ℕ)) (line : List ℕ) → ((x : List ℕ) → Contains left x → Contains all x) → left ≡ line ∷ rest → (x : List ℕ) → Contains rest x → Contains all x
 rest_among all left rest line inside e x there = inside x (subst (λ (l : List (List ℕ)). Contains l x) (sym e) (rest_there line x rest there))
-
--- a VEVENT of the object that does
-pub names_refused : (object event : Component) (zoned : Component) (n : ℕ) (zone : Component) (i : ℕ) → i < length (component_children object) → event ≡ get_or (component_children object) i event
-    → is_same_name (component_name event) (codes "VEVENT") ≡ true → zoned ≡ object → RefusedBy (tree_of zoned) (component_lines event) n zone → NamesRefused object n zone
-names_refused object event zoned n zone i within here named same by =
-    (event, (i, within, sym here), named, subst (λ (o : Component). RefusedBy (tree_of o) (component_lines event) n zone) same by)
 
 -- what it names has the fault
 pub zone_fault : (object : Component) (n : ℕ) (zone : Component) → NamesRefused object n zone → HasZoneFault zone n

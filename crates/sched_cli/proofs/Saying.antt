@@ -51,14 +51,6 @@ pub said_write : (status : ℕ) (fault : WriteFault) (a b : Option (List ℕ)) (
 said_write status write.Failed a b lost is says = record { quiet = λ l. absurd (omega (arith, is, l)); device = λ e. says; memory = λ e. absurd (omega (arith, is, e)) }
 said_write status write.Memory a b lost is says = record { quiet = λ l. absurd (omega (arith, is, l)); device = λ e. absurd (omega (arith, is, e)); memory = λ e. says }
 
--- with 4 a beginning was written, with 5 nothing
-pub cut_at_4 : (status : ℕ) (fault : WriteFault) (a b : Option (List ℕ)) (failed : Bool) (octets : List ℕ) → status ≡ write_status fault → StopsWriting a b failed octets fault → status ≡ 4 → IsCut a b octets
-cut_at_4 status fault a b failed octets is stops e = stopped_cut a b failed octets fault stops
-
-pub kept_at_5 : (status : ℕ) (fault : WriteFault) (a b : Option (List ℕ)) (failed : Bool) (octets : List ℕ) → status ≡ write_status fault → StopsWriting a b failed octets fault → status ≡ 5 → Keeps a b
-kept_at_5 status write.Failed a b failed octets is stops e = absurd (omega (arith, is, e))
-kept_at_5 status write.Memory a b failed octets is stops e = stops
-
 -- what can't be read
 pub said_read : (status : ℕ) (fault : Fault) (a b : Option (List ℕ)) (lost : Bool) → status ≡ read_status fault → SaysLine (read_text fault) a b lost → IsStatusSaid status a b lost
 said_read status (lines.Refused refusal) a b lost is says = record { quiet = λ l. absurd (omega (arith, is, l)); device = λ e. absurd (omega (arith, is, e)); memory = λ e. absurd (omega (arith, is, e)) }

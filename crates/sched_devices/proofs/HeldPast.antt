@@ -27,10 +27,6 @@ drop_push zero past v le = refl
 drop_push (suc moment) [] v le = absurd (omega arith)
 drop_push (suc moment) (p ∷ past) v le = drop_push moment past v (omega arith)
 
--- nothing has changed
-pub elapses_same : (past : Contents) (files : List HeldFile) → Elapses (length past) (length past) (LeftSince past files) (LeftSince past files) (MayLeave files)
-elapses_same past files = record { later = omega arith; nothing_else = λ moment left le since. inl since; keeps = λ moment left le since. since }
-
 elapses_push : (past : Contents) (v : Vec HeldFile Global) (old new : List HeldFile) → v.items ≡ old
     → Elapses (length past) (length (past ++ v ∷ [])) (LeftSince past old) (LeftSince (past ++ v ∷ []) new) (MayLeave new)
 elapses_push past v old new is = record {

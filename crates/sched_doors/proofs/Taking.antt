@@ -146,17 +146,3 @@ pub goes_more : (a c : Option (List ℕ)) (cutter : Cutter) (before after : List
 goes_more a c cutter before after piece most is t few =
     let some : 0 < length t.taken = subst (IsEndOfPiece a c cutter t.taken) is t.ends in
     omega (arith, ap length t.added, length-append before t.taken, some, few)
-
--- a piece that was taken alone
-pub piece_some : (a c : Option (List ℕ)) (cutter : Cutter) (before after : List ℕ) (piece : Piece) → before ≡ [] → TakesDoorPiece a c cutter before after piece
-    → (length after ≡ 0 → OnSome a (IsAtEnd c)) → TakesSome a c before after
-piece_some a c cutter before after piece empty t end = record {
-  taken = t.taken;
-  consumed = t.consumed;
-  added = t.added;
-  end = λ none. end (omega (arith, ap length t.added, length-append before t.taken, ap length empty, none));
-}
-
-pub piece_alone : (a c : Option (List ℕ)) (cutter : Cutter) (before after : List ℕ) (piece : Piece) → before ≡ [] → after ≡ [] → TakesDoorPiece a c cutter before after piece → Consumes a c []
-piece_alone a c cutter before after piece empty none t =
-    subst (Consumes a c) (sym (sym none ∙ t.added ∙ ap (λ (l : List ℕ). l ++ t.taken) empty)) t.consumed

@@ -1,15 +1,14 @@
 -- Of events without a rule each instance is a single.
 -- Behind EventComponent::singles, EventComponent::singles_at.
-use Rattle.std.proofs.Common.{◌≡◌, ◌∙◌, ℕ, zero, Bool, true, false, cond, List, [], ◌∷◌, filter, subst, sym, refl, ap, arith}
+use Rattle.std.proofs.Common.{◌≡◌, ◌∙◌, ℕ, zero, Bool, true, false, cond, List, [], ◌∷◌, filter, sym, refl, ap, arith}
 use Rattle.std.specs.Prelude.{Option, None, All, is_some, ◌&&◌}
-use Rattle.std.specs.List.{AllZip, flat_map}
 use Rattle.std.proofs.lemmas.Bool.{true≢false}
 use Rattle.std.proofs.lemmas.List.Elements.{All-tail}
 use Rattle.profile.specs.checker.Instances.{Instance}
 use Rattle.profile.specs.series.Rules.{Rule}
 use Rattle.profile.specs.events.EventComponents.{EventComponent}
 use Rattle.profile.specs.events.Events.{is_master}
-use Rattle.profile.specs.events.Confirmed.{is_kept, is_series, IsOfSeries, IsSeries, AreSingles, AreConfirmed}
+use Rattle.profile.specs.events.Confirmed.{is_kept, is_series, IsOfSeries}
 
 abbrev pub IsOnce : EventComponent → Type 0
 IsOnce event = event.rule ≡ None
@@ -26,12 +25,3 @@ no_series room (e ∷ es) h =
     never : (a : Bool) {b : Bool} → b ≡ false → (a && b) ≡ false
     never true h = h
     never false h = refl
-
--- what they confirm
-pub once_confirmed : (room : List ℕ) (events : List EventComponent) (lists : List (List Instance)) → All IsOnce events → AllZip (AreSingles room events) events lists → AreConfirmed room events (record { series = []; singles = flat_map (λ own. own) lists })
-once_confirmed room events lists h z = record {
-  series = subst (λ es. AllZip (IsSeries events) es []) (sym (no_series room events h)) tt;
-  lists = lists;
-  each = z;
-  singles = refl;
-}

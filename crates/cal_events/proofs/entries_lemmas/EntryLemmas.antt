@@ -1,6 +1,6 @@
 -- The names of a calendar's VEVENTs: the one at a place, and one more at the end.
 -- Cited by Entries::key_at, Entries::len, Entries::owned_key_at, Entries::push, Entries::recurrence.
-use Rattle.std.proofs.Common.{◌≡◌, ◌∙◌, ℕ, zero, suc, ◌<◌, List, [], ◌∷◌, ◌++◌, length, get_or, refl, sym, ap, subst, arith}
+use Rattle.std.proofs.Common.{◌≡◌, ◌∙◌, ℕ, zero, suc, ◌<◌, List, [], ◌∷◌, ◌++◌, length, get_or, refl, sym, ap, arith}
 use Rattle.std.specs.Prelude.{All, ℤ}
 use Rattle.std.proofs.lemmas.List.{get_or_append_left}
 use Rattle.std.proofs.lemmas.List.Elements.{All-tail}
@@ -57,9 +57,6 @@ module _ (os us : List (List ℕ)) (es : List ComponentName) (names : List Name)
 
   pub name_there : (e : ComponentName) → e ≡ get_or es k e → name_at names k ≡ name_of os (get_or us k []) e
   name_there e is = ap (λ l. name_at l k) (sym view) ∙ named_at os us es k e same entry_in ∙ ap (name_of os (get_or us k [])) (sym is)
-
-  pub organiser_in : Within os es → (e : ComponentName) → e ≡ get_or es k e → e.organiser < length os
-  organiser_in h e is = subst (λ (x : ComponentName). x.organiser < length os) (sym is) (h k e entry_in)
 
   pub key_there : (organiser uid : List ℕ) (t slot : ℤ) (e : ComponentName) → e ≡ get_or es k e → organiser ≡ get_or os e.organiser [] → uid ≡ get_or us k [] → t ≡ slot
       → key_in (organiser, uid) t ≡ key_in (meeting_at names k) slot

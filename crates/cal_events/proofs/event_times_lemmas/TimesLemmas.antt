@@ -321,16 +321,3 @@ duration_fault object lines line text n once e (inr k) none positive long =
 abbrev OneReading : List ℕ → Type 0
 OneReading text = (days seconds other_days other_seconds : ℕ) → SpellsDuration text days seconds → SpellsDuration text other_days other_seconds
     → (days ≡ other_days) × (seconds ≡ other_seconds)
-
-not_long : (text : List ℕ) (days seconds : ℕ) → OneReading text → SpellsDuration text days seconds → days < 2 ^ 32 → seconds < 2 ^ 32 → SpellsLong text → ⊥
-not_long text days seconds one spelled d s (other_days, other_seconds, other, past) =
-    let same = one days seconds other_days other_seconds spelled other in
-    elim past [ inl p ↦ absurd (omega (arith, same.0, d, p)) | inr p ↦ absurd (omega (arith, same.1, s, p)) ]
-
--- a text that is refused isn't a duration that 32 bits count
-pub not_counted : (text : List ℕ) (n days seconds : ℕ) → OneReading text → (SpellsDuration text days seconds → SpellsNegative text → ⊥)
-    → (n ≡ 12) ⊎ (n ≡ 51) → (n ≡ 12 → IsNone text) → (n ≡ 51 → SpellsNegative text ⊎ SpellsLong text)
-    → SpellsDuration text days seconds → days < 2 ^ 32 → seconds < 2 ^ 32 → ⊥
-not_counted text n days seconds one positive (inl k) none long spelled d s = none k days seconds spelled
-not_counted text n days seconds one positive (inr k) none long spelled d s =
-    elim (long k) [ inl h ↦ positive spelled h | inr h ↦ not_long text days seconds one spelled d s h ]

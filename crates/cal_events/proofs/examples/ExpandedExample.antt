@@ -5,7 +5,6 @@ use Rattle.std.specs.Prelude.{Some, None, Contains}
 use Rattle.std.proofs.lemmas.Int.{ints}
 use Rattle.std.proofs.lemmas.Fmt.{decimal_digit}
 use Rattle.std.proofs.lemmas.Option.{same_Some}
-use Rattle.std.proofs.lemmas.List.Elements.{All-nil, All-cons}
 use Rattle.profile.specs.series.Days.{days_before_year, days_of_months}
 use Rattle.profile.specs.text.Values.{WritesStamp}
 use Rattle.profile.specs.checker.Instances.{Key, Instance}
@@ -14,7 +13,7 @@ use Rattle.profile.specs.events.ZonedTimes.{EventTimes}
 use Rattle.profile.specs.events.Occurrences.{Time}
 use Rattle.profile.specs.events.EventComponents.{EventComponent}
 use Rattle.profile.specs.events.Events.{Event}
-use Rattle.profile.specs.events.Starts.{EndsAt, IsStart, IsInstance, IsOfMaster, IsOfOverride, ComesBefore, AreFirst, key_at}
+use Rattle.profile.specs.events.Starts.{EndsAt, IsInstance, IsOfOverride, key_at}
 use Rattle.profile.specs.events.Expanding.{IsInstanceLine}
 use Rattle.cal_events.proofs.shared_lemmas.OneInstance.{booked_same}
 
@@ -74,17 +73,6 @@ instance = record { key = record { organiser = []; uid = codes "a"; slot = first
 it_is : IsInstance meeting instance
 it_is = inr (record { override = moved; is = (0, omega arith, refl); recurrence = refl; key = refl; starts = refl; ends = (second, inl (refl, refl), refl) })
 
--- the other one comes after it, since its slot is later
-other_later : (b : Instance) → IsOfMaster meeting b → ComesBefore instance b
-other_later b h =
-    let starts = subst (λ (m : EventComponent). IsStart m (moved ∷ []) b.start) (sym (same_Some master h.master h.is)) h.starts in
-    go (ap (λ (k : Key). k.slot) h.key) starts starts.given
-  where
-    go : b.key.slot ≡ b.start → IsStart master (moved ∷ []) b.start → (b.start ≡ first) ⊎ Contains (second ∷ []) b.start → ComesBefore instance b
-    go slot starts (inl e) = absurd (starts.not_replaced (record { override = moved; among = (0, omega arith, refl); is = ap Some (sym e) }))
-    go slot starts (inr (zero, w, e)) = inr (e, omega (arith, ints, e, slot))
-    go slot starts (inr (suc k, w, e)) = absurd (omega (arith, w))
-
 ends_so : (b : Instance) → b.start ≡ second → EndsAt (nine_seconds_from second) b.start b.end → pos 1_735_808_409 ≡ b.end
 ends_so b e (later, inl (z, f), g) = omega (arith, ints, e, f, g)
 ends_so b e (later, inr (some, f), g) = absurd (omega (arith, some))
@@ -103,17 +91,6 @@ no_other b h = go h.is
         key_of_it : EventComponent → Key
         key_of_it x = key_at x b.key.slot
     go (suc k, w, e) = absurd (omega (arith, w))
-
-the_first : AreFirst meeting 1 (instance ∷ [])
-the_first = record {
-  each = All-cons (IsInstance meeting) instance [] it_is (All-nil (IsInstance meeting));
-  ordered = λ i j d l w. absurd (omega (arith, l, w));
-  short = omega arith;
-  others = λ b is. elim is [
-    | inl h ↦ inr (refl, All-cons (λ a. ComesBefore a b) instance [] (other_later b h) (All-nil (λ a. ComesBefore a b)))
-    | inr h ↦ inl (0, omega arith, no_other b h)
-  ];
-}
 
 -- ---- its line
 

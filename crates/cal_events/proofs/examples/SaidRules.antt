@@ -43,9 +43,6 @@ module _ (lines : Lines) (times : EventTimes) (rule : Option Rule) (s : SaysEven
       beside (start ∷ more) None (Some r) e g = absurd g
       beside (start ∷ more) (Some t) rule e g = absurd (none_or_some t (sym e))
 
-  pub no_rule_alone : lines_named (codes "DTSTART") lines ≡ [] → rule ≡ None
-  no_rule_alone missing = subst (λ (starts : Lines). GivesBeside starts times s.text rule) missing s.gives
-
   pub rule_found : (r : Rule) → rule ≡ Some r → IsFound lines times r
   rule_found r is =
       let found = beside (lines_named (codes "DTSTART") lines) s.text rule s.gives is in

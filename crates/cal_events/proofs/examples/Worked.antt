@@ -1,9 +1,8 @@
 -- The definitions at worked examples.
-use Rattle.std.proofs.Common.{◌≡◌, ℕ, ℤ, pos, negsuc, true, false, List, get_or, refl, ap, arith}
+use Rattle.std.proofs.Common.{◌≡◌, ℕ, ℤ, pos, negsuc, true, false, List, refl, arith}
 use Rattle.std.specs.Prelude.{codes}
-use Rattle.std.specs.declared.cmp.Ordering.TheVariants.{Less}
 use Rattle.std.proofs.lemmas.Int.{ints}
-use Rattle.profile.specs.checker.Instances.{Key, Instance, AreClashing, IsWithin, horizon, instance_cmp}
+use Rattle.profile.specs.checker.Instances.{Instance, IsWithin, horizon}
 use Rattle.cal_events.specs.Sweep.{holds_instant}
 
 -- an instance of Ann's meeting in these seconds, named by its start
@@ -17,30 +16,9 @@ first = meeting (codes "a") (pos 1741597200) (pos 1741600800)
 abbrev second : Instance
 second = meeting (codes "b") (pos 1741599000) (pos 1741602600)
 
--- they clash at 09:30Z
-half_an_hour : AreClashing first second (pos 1741599000)
-half_an_hour = record {
-  differ = λ e. let h : 97 ≡ 98 = ap (λ (k : Key). get_or k.uid 0 0) e in absurd (omega (arith, h));
-  before = omega (arith, ints);
-  in_first = (omega (arith, ints), omega (arith, ints));
-  in_second = (omega (arith, ints), omega (arith, ints));
-}
-
--- the earlier is named first
-earlier_first : instance_cmp first second ≡ Less
-earlier_first = refl
-
--- one instance doesn't clash with itself
-not_with_itself : (t : ℤ) → AreClashing first first t → ⊥
-not_with_itself t h = h.differ refl
-
 -- an end is in no instance: 10:00Z after 10:00Z is clear
 no_end : (t : ℤ) → IsWithin (pos 1741597200) (pos 1741600800) t → IsWithin (pos 1741600800) (pos 1741602600) t → ⊥
 no_end t h k = absurd (omega (arith, ints))
-
--- an instance of no length holds no second
-no_length : (a t : ℤ) → IsWithin a a t → ⊥
-no_length a t h = absurd (omega (arith, ints))
 
 -- 99991231T230000Z for two hours and 99991231T233000Z for ten minutes clash at the second's start
 abbrev last_hours : Instance
@@ -48,14 +26,6 @@ last_hours = meeting (codes "a") (pos 253402297200) (pos 253402304400)
 
 abbrev last_minutes : Instance
 last_minutes = meeting (codes "b") (pos 253402299000) (pos 253402299600)
-
-last_clash : AreClashing last_hours last_minutes (pos 253402299000)
-last_clash = record {
-  differ = λ e. let h : 97 ≡ 98 = ap (λ (k : Key). get_or k.uid 0 0) e in absurd (omega (arith, h));
-  before = omega (arith, ints);
-  in_first = (omega (arith, ints), omega (arith, ints));
-  in_second = (omega (arith, ints), omega (arith, ints));
-}
 
 -- what the sweep keeps: starts before the horizon, ends after the start, whatever the signs
 kept : holds_instant (record { start = pos 253402297200; end = pos 253402304400 }) ≡ true

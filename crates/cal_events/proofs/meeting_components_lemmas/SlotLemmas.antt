@@ -1,14 +1,10 @@
 -- Which slots events are of: how many are masters, and which instances the others are for, by their instants or by the times that name them.
 -- Behind judge_slots: count_masters, share_instant, share_time, times_named, share_form.
 use Rattle.std.proofs.Common.{◌≡◌, ◌≢◌, ◌∙◌, ℕ, zero, ◌+◌, ◌<◌, ◌≤◌, Bool, true, false, not, cond, ◌||◌, List, [], ◌∷◌, ◌++◌, length, map, filter, get_or, take, append-nil, sym, ap, subst, refl, arith, ℤ}
-use Rattle.std.specs.Prelude.{Option, Some, None, is_some, option_map, AllPairs, MatchBool}
+use Rattle.std.specs.Prelude.{Option, Some, None, is_some, AllPairs, MatchBool}
 use Rattle.std.specs.Option.{option_to_list}
-use Rattle.std.specs.List.{flat_map}
-use Rattle.std.specs.List.Sorted.{IsPermutation}
 use Rattle.std.proofs.lemmas.Bool.{true≢false}
-use Rattle.std.proofs.lemmas.Grind.{flat_map-append}
-use Rattle.std.proofs.lemmas.List.{length-append, map-append, take_more, take_all}
-use Rattle.std.proofs.lemmas.List.Sorted.{IsPermutation-sym}
+use Rattle.std.proofs.lemmas.List.{length-append, take_more, take_all}
 use Rattle.std.proofs.lemmas.Option.{same_Some}
 use Rattle.profile.specs.rooms.Messages.{instants_in, is_of_form}
 use Rattle.profile.specs.events.Properties.{Form, Fixed, Floating, WholeDay, is_fixed, is_floating, is_whole_day}
@@ -19,7 +15,6 @@ use Rattle.cal_events.specs.Component.{component_of, time_of}
 use Rattle.cal_events.specs.declared.component.EventComponent.{EventComponent}
 use Rattle.cal_events.specs.declared.time.Time.{Time}
 use Rattle.cal_events.specs.MeetingComponents.{instants_said, times_named, NameInstances}
-use Rattle.cal_events.proofs.draft_lemmas.KeyLemmas.{pairs_permutation}
 use Rattle.cal_events.proofs.shared_lemmas.InOneOrder.{later, head_pairs, tail_pairs, cons_pairs, of_mapped, in_mapped, of_filtered, in_filtered, pairs_mapped, mapped_pairs}
 use Rattle.cal_events.proofs.shared_lemmas.MeetingLemmas.{filter_push}
 
@@ -55,12 +50,6 @@ pub record AreMasters (components : List EventComponent) (count : ℕ) : Type 0 
 pub no_masters : AreMasters [] 0
 no_masters = record { within = omega arith; masters = refl }
 
-master_pushed : (ys : List EventComponent) (x : EventComponent) (count : ℕ) → x.recurrence ≡ None → AreMasters ys count → AreMasters (ys ++ x ∷ []) (count + 1)
-master_pushed ys x count r c =
-    let masters = filter is_master (map component_of ys) in
-    let more = ap length (filter_push is_master ys x ∙ ap (λ o. masters ++ cond (not (is_some o)) (component_of x ∷ []) []) r) ∙ length-append masters (component_of x ∷ []) in
-    record { within = omega (arith, c.within, length-append ys (x ∷ [])); masters = omega (arith, c.masters, more) }
-
 other_pushed : (ys : List EventComponent) (x : EventComponent) (count : ℕ) (t : ℤ) → x.recurrence ≡ Some t → AreMasters ys count → AreMasters (ys ++ x ∷ []) count
 other_pushed ys x count t r c =
     let masters = filter is_master (map component_of ys) in
@@ -68,14 +57,8 @@ other_pushed ys x count t r c =
     record { within = omega (arith, c.within, length-append ys (x ∷ [])); masters = c.masters ∙ ap length (sym same) }
 
 module _ (all : List EventComponent) (i : ℕ) (x : EventComponent) (within : i < length all) (here : x ≡ get_or all i x) (count : ℕ) (so_far : AreMasters (take i all) count) where
-  pub master_counted : x.recurrence ≡ None → AreMasters (take (i + 1) all) (count + 1)
-  master_counted r = more_for all i x within here (λ (l : List EventComponent). AreMasters l (count + 1)) (master_pushed (take i all) x count r so_far)
-
   pub other_counted : (t : ℤ) → x.recurrence ≡ Some t → AreMasters (take (i + 1) all) count
   other_counted t r = more_for all i x within here (λ (l : List EventComponent). AreMasters l count) (other_pushed (take i all) x count t r so_far)
-
-pub all_masters : (all : List EventComponent) (i count : ℕ) → length all ≤ i → AreMasters (take i all) count → count ≡ length (filter is_master (map component_of all))
-all_masters all i count end h = subst (λ (l : List EventComponent). count ≡ length (filter is_master (map component_of l))) (take_all i all end) h.masters
 
 -- ---- instants
 
@@ -88,20 +71,9 @@ master_for ys x ts r h =
     let others = filter is_override (map component_of ys) in
     let same = filter_push is_override ys x ∙ ap (λ o. others ++ cond (is_some o) (component_of x ∷ []) []) r ∙ append-nil others in h ∙ ap instants_said (sym same)
 
-override_for : (ys : List EventComponent) (x : EventComponent) (ts : List ℤ) (t : ℤ) → x.recurrence ≡ Some t → AreFor ys ts → AreFor (ys ++ x ∷ []) (ts ++ t ∷ [])
-override_for ys x ts t r h =
-    let others = filter is_override (map component_of ys) in
-    let more = filter_push is_override ys x ∙ ap (λ o. others ++ cond (is_some o) (component_of x ∷ []) []) r in
-    map-append Some ts (t ∷ []) ∙ ap (λ l. l ++ Some t ∷ []) h ∙ ap (λ o. instants_said others ++ o ∷ []) (sym r)
-    ∙ sym (map-append (λ (event : SaidComponent). event.recurrence) others (component_of x ∷ [])) ∙ ap instants_said (sym more)
-
 module _ (all : List EventComponent) (i : ℕ) (x : EventComponent) (within : i < length all) (here : x ≡ get_or all i x) (ts : List ℤ) (so_far : AreFor (take i all) ts) where
   pub none_more : x.recurrence ≡ None → AreFor (take (i + 1) all) ts
   none_more r = more_for all i x within here (λ (l : List EventComponent). AreFor l ts) (master_for (take i all) x ts r so_far)
-
-  pub instant_more : (t : ℤ) (more : List ℤ) → x.recurrence ≡ Some t → more ≡ ts ++ t ∷ [] → AreFor (take (i + 1) all) more
-  instant_more t more r m =
-      subst (AreFor (take (i + 1) all)) (sym m) (more_for all i x within here (λ (l : List EventComponent). AreFor l (ts ++ t ∷ [])) (override_for (take i all) x ts t r so_far))
 
 pub share_by_instant : (all : List EventComponent) (i : ℕ) (b : Bool) (ts : List ℤ) → length all ≤ i → AreFor (take i all) ts → MatchBool b (AllPairs ◌≢◌ ts → ⊥) (AllPairs ◌≢◌ ts)
     → MatchBool b (InstancesDiffer (filter is_override (map component_of all)) → ⊥) (InstancesDiffer (filter is_override (map component_of all)))
@@ -117,23 +89,6 @@ AreNamed components times = map time_of times ≡ times_named (map component_of 
 
 abbrev named_by : SaidComponent → List SaidTime
 named_by event = option_to_list event.written.recurrence
-
-pushed_named : (ys : List EventComponent) (x : EventComponent) → times_named (map component_of (ys ++ x ∷ [])) ≡ times_named (map component_of ys) ++ (option_to_list (option_map time_of x.written.recurrence) ++ [])
-pushed_named ys x = ap times_named (map-append component_of ys (x ∷ [])) ∙ flat_map-append named_by (map component_of ys) (component_of x ∷ [])
-
-module _ (all : List EventComponent) (i : ℕ) (x : EventComponent) (within : i < length all) (here : x ≡ get_or all i x) (ts : List Time) (so_far : AreNamed (take i all) ts) where
-  pub no_time_more : x.written.recurrence ≡ None → AreNamed (take (i + 1) all) ts
-  no_time_more r =
-      let old = times_named (map component_of (take i all)) in
-      more_for all i x within here (λ (l : List EventComponent). AreNamed l ts)
-      (so_far ∙ sym (pushed_named (take i all) x ∙ ap (λ (o : Option Time). old ++ (option_to_list (option_map time_of o) ++ [])) r ∙ append-nil old))
-
-  pub time_more : (t : Time) (more : List Time) → x.written.recurrence ≡ Some t → more ≡ ts ++ t ∷ [] → AreNamed (take (i + 1) all) more
-  time_more t more r m =
-      let old = times_named (map component_of (take i all)) in
-      more_for all i x within here (λ (l : List EventComponent). AreNamed l more)
-      (ap (map time_of) m ∙ map-append time_of ts (t ∷ []) ∙ ap (λ l. l ++ time_of t ∷ []) so_far
-      ∙ sym (pushed_named (take i all) x ∙ ap (λ (o : Option Time). old ++ (option_to_list (option_map time_of o) ++ [])) r))
 
 pub all_named : (all : List EventComponent) (i : ℕ) (ts : List Time) → length all ≤ i → AreNamed (take i all) ts → AreNamed all ts
 all_named all i ts end h = subst (λ (l : List EventComponent). AreNamed l ts) (take_all i all end) h

@@ -6,10 +6,10 @@ use Rattle.std.proofs.lemmas.Bool.{true≢false}
 use denote.Ref.{Bor}
 use Rattle.profile.specs.text.Lines.{line_param}
 use Rattle.profile.specs.text.Trees.{Tree}
-use Rattle.profile.specs.events.Properties.{Form, Fixed, is_fixed, OccursAtMostOnce, BothOrNeither, Says}
+use Rattle.profile.specs.events.Properties.{Form, Fixed, is_fixed, OccursAtMostOnce, BothOrNeither}
 use Rattle.profile.specs.events.ZonedTimes.{SaysForm, SaysOutOfDates}
-use Rattle.profile.specs.events.Occurrences.{Time, IsFixedWhere, has_range, IsRecurrenceLine, OccurrenceFault, recurrence_out, unfixed}
-use Rattle.cal_events.specs.Times.{form_of, time_of}
+use Rattle.profile.specs.events.Occurrences.{Time, IsFixedWhere, has_range, OccurrenceFault, recurrence_out, unfixed}
+use Rattle.cal_events.specs.Times.{form_of}
 use Rattle.cal_events.specs.Occurrences.{IsRecurrenceSo, IsRecurrenceSaid}
 use Rattle.cal_events.specs.declared.occurrences.SaidInstant.{SaidInstant}
 use Rattle.cal_events.proofs.shared_lemmas.EventLemmas.{some_line}
@@ -35,15 +35,6 @@ unfixed_there {added} {fixed} object lines said s needed other = go s.line s.onc
         unfixed needed
         (some_line (codes "RECURRENCE-ID") (λ l. (form : Form) × (form ≢ Fixed) × SaysForm object l form) lines line once
         (form_of said.time.form, (λ e. true≢false (sym (ap is_fixed e) ∙ other)), (h.1.0, h.1.1, h.1.2)))
-
--- a time that is said and in the dates is that of RECURRENCE-ID
-pub recurrence_judged : (object : Tree) (lines : List (List ℕ)) (said : SaidInstant) → IsRecurrenceSaid object lines (Some said) → said.in_dates ≡ true
-    → Says (codes "RECURRENCE-ID") false (IsRecurrenceLine object) lines (Some (time_of said.time))
-recurrence_judged object lines said s inside = record { line = s.line; once = s.once; present = s.present; is = go s.line s.is }
-  where
-    go : (l : Option (List ℕ)) → BothOrNeither (IsRecurrenceSo object) l (Some said) → BothOrNeither (IsRecurrenceLine object) l (Some (time_of said.time))
-    go None h = absurd h
-    go (Some line) h = (h.0, (h.1.0, h.1.1, h.1.2, h.1.3, h.1.4.0 inside))
 
 -- a parameter that was found is on the line
 pub shows_range : (line : List ℕ) (found : Option (Bor (List ℕ))) → option_map (λ x. x.now) found ≡ line_param (codes "RANGE") line → is_some found ≡ true → has_range line ≡ true

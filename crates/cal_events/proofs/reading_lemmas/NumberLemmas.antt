@@ -90,10 +90,6 @@ times_number object lines n (other_form x) = refl
 times_number object lines n (part_of_day x) = refl
 times_number object lines n (end_and_duration e d) = refl
 
-pub times_refused : (object : Tree) (lines : Lines) (f : Fault) → RefusesBy (EventTimesFault object lines) f → RefusesOnly is_zoned_event_fault f
-times_refused object lines Memory h = tt
-times_refused object lines (Refused r) h = times_number object lines r.number h
-
 -- ---- a series
 
 series_wider : (n : ℕ) → is_zoned_event_fault n ≡ true → is_series_event_fault n ≡ true

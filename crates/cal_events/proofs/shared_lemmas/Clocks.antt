@@ -1,24 +1,11 @@
 -- The clocks of an event's zone: what they show means one instant, and later ones later instants.
 -- Cited by add_singles of draft, Event::of_object of event, Series::of of series.
-use Rattle.cal_events.proofs.shared_lemmas.Meanings.{one_meaning}
-use Rattle.std.proofs.Common.{◌≡◌, ◌∙◌, ℕ, ◌≤◌, List, [], ◌∷◌, codes, sym, ap, subst, filter, inl, inr, ◌⊎◌, arith, ℤ, pos, negsuc, ◌+ℤ◌, ◌-ℤ◌, ◌<ℤ◌, ◌≤ℤ◌, unsigned_abs}
-use Rattle.std.specs.Prelude.{Option, Some, None, All, option_map}
-use Rattle.std.specs.Option.{option_to_list}
-use Rattle.std.specs.List.{AllZip, AllByRecursion}
+use Rattle.std.proofs.Common.{◌≡◌, ◌∙◌, ℕ, ◌≤◌, List, [], ◌∷◌, sym, inl, inr, ◌⊎◌, arith, ℤ, pos, negsuc, ◌+ℤ◌, ◌-ℤ◌, ◌<ℤ◌, ◌≤ℤ◌, unsigned_abs}
 use Rattle.std.proofs.lemmas.Int.{ints}
-use Rattle.std.proofs.lemmas.List.Elements.{All-from_recursion, All-filter}
-use Rattle.profile.specs.text.Lines.{line_value, line_param}
-use Rattle.profile.specs.text.Trees.{Tree}
-use Rattle.profile.specs.series.Zones.{Zone, Constant, Single, Pair, Observance, IsZoneOnset, InForce, Since, Until, IsOneMeaning, Means}
+use Rattle.profile.specs.series.Zones.{Zone, Constant, Single, Pair, Observance, IsZoneOnset, InForce, Since, Until, Means}
 use Rattle.profile.specs.series.ZoneTexts.{AreMatched}
-use Rattle.profile.specs.events.Properties.{Form, Fixed, Floating, WholeDay}
-use Rattle.profile.specs.events.ZonedTimes.{zone_named, SaysZoneOf, SpellsZoned, SaysZonedText, clock_of}
-use Rattle.profile.specs.events.EventComponents.{Method, EventComponent as SaidComponent, SaysEventComponent}
-use Rattle.profile.specs.events.Events.{is_master}
-use Rattle.cal_events.specs.Clocks.{IsAscending, HasGoodClock}
-use Rattle.cal_events.specs.Component.{component_of}
-use Rattle.cal_events.specs.declared.component.EventComponent.{EventComponent}
-use Rattle.cal_events.proofs.shared_lemmas.OneTimes.{clock_one}
+use Rattle.profile.specs.events.EventComponents.{EventComponent as SaidComponent}
+use Rattle.cal_events.specs.Clocks.{IsAscending}
 
 abbrev Lines : Type 0
 Lines = List (List ℕ)
@@ -73,41 +60,3 @@ ascends (Single o) m a b t u p q w = later o.offset_from o.offset_to a b t u (ne
 ascends (Pair o s) m a b t u p q w = later o.offset_from o.offset_to a b t u (near o.offset_from o.offset_to m.2) (pair_reads o s a t m p) (pair_reads o s b u m q) w
 
 -- ---- the clocks of an event
-
-clock_ascends : (object : Tree) (line text : List ℕ) (form : Form) (zone : Option Zone) (local : ℤ) → SaysZonedText object line text form zone local → IsAscending (clock_of zone)
-clock_ascends object line text form None local h = ascends (Constant (pos 0)) tt
-clock_ascends object line text Floating (Some zone) local (_, (_, e, _)) = cc
-clock_ascends object line text WholeDay (Some zone) local (_, (_, e, _)) = cc
-clock_ascends object line text Fixed (Some zone) local h = spelled (line_param (codes "TZID") line) h.1
-  where
-    named : (o : Option Tree) → SaysZoneOf o zone → IsAscending zone
-    named None says = absurd says
-    named (Some part) says = ascends zone says.matched
-
-    spelled : (o : Option (List ℕ)) → SpellsZoned object o text (Some zone) local → IsAscending zone
-    spelled None says = absurd says
-    spelled (Some name) says = named (zone_named name object) says.1
-
-pub clock_good : (object : Tree) {m : Option Method} (lines : Lines) (event : SaidComponent) → SaysEventComponent object m lines event → HasGoodClock event
-clock_good object lines event s = elim s.times [
-  | inl t ↦ (
-    clock_one object t.line (line_value t.line) event.times.form event.times.zone event.times.local t.says,
-    clock_ascends object t.line (line_value t.line) event.times.form event.times.zone event.times.local t.says,
-  )
-  | inr (_, t) ↦ subst (λ (z : Option Zone). IsOneMeaning (clock_of z) × IsAscending (clock_of z)) (sym t.zone) (one_meaning (Constant (pos 0)) tt, ascends (Constant (pos 0)) tt)
-]
-
-pub all_clocks : (object : Tree) (m : Option Method) (vs : List Lines) (es : List SaidComponent) → AllZip (SaysEventComponent object m) vs es → All HasGoodClock es
-all_clocks object m vs es z = All-from_recursion HasGoodClock es (go vs es z)
-  where
-    go : (vs : List Lines) (es : List SaidComponent) → AllZip (SaysEventComponent object m) vs es → AllByRecursion HasGoodClock es
-    go [] [] z = tt
-    go [] (e ∷ es) z = absurd z
-    go (v ∷ vs) [] z = absurd z
-    go (v ∷ vs) (e ∷ es) z = (clock_good object v e z.0, go vs es z.1)
-
--- the one master
-pub master_good : (es : List SaidComponent) (o : Option EventComponent) → All HasGoodClock es → filter is_master es ≡ option_to_list (option_map component_of o) → (m : EventComponent) → o ≡ Some m → HasGoodClock (component_of m)
-master_good es o all e m is =
-    let one : filter is_master es ≡ component_of m ∷ [] = e ∙ ap (λ (x : Option EventComponent). option_to_list (option_map component_of x)) is in
-    subst (All HasGoodClock) one (All-filter is_master HasGoodClock es all) 0 (component_of m) (omega arith)

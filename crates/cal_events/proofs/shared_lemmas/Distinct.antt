@@ -76,22 +76,3 @@ source_twice a b k = grind (arith, nat_tests)
 -- R holds of two places that differ
 abbrev pub SomeTwo : {X : Type 0} → (X → X → Type 0) → List X → Type 0
 SomeTwo {X} R xs = (i : ℕ) × (j : ℕ) × (d : X) × (i < length xs) × (j < length xs) × (i ≢ j) × R (get_or xs i d) (get_or xs j d)
-
-some_two_swap : {X : Type 0} (R : X → X → Type 0) (xs : List X) (a b : ℕ) → a < length xs → b < length xs → SomeTwo R xs → SomeTwo R (swap xs a b)
-some_two_swap {X} R xs a b ha hb (i, j, d, hi, hj, ne, h) =
-    let s = source a b i in
-    let t = source a b j in
-    let ei : get_or (swap xs a b) s d ≡ get_or xs i d = source_is xs a b s d ha hb ∙ ap (λ k. get_or xs k d) (source_twice a b i) in
-    let ej : get_or (swap xs a b) t d ≡ get_or xs j d = source_is xs a b t d ha hb ∙ ap (λ k. get_or xs k d) (source_twice a b j) in (
-      s,
-      t,
-      d,
-      subst (λ n. s < n) (sym (length-swap xs a b)) (source_below a b i _ ha hb hi),
-      subst (λ n. t < n) (sym (length-swap xs a b)) (source_below a b j _ ha hb hj),
-      source_differs a b i j ne,
-      subst (λ (x : X). R x (get_or (swap xs a b) t d)) (sym ei) (subst (λ (y : X). R (get_or xs i d) y) (sym ej) h),
-    )
-
-pub some_two_permutation : {X : Type 0} (R : X → X → Type 0) (xs ys : List X) → IsPermutation xs ys → SomeTwo R xs → SomeTwo R ys
-some_two_permutation {X} R xs ys same h =
-    IsPermutation-keeps xs (SomeTwo R) h (λ l i j hi hj p. some_two_swap R l i j hi hj p) ys same

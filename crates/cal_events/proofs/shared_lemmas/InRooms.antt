@@ -6,9 +6,7 @@ use Rattle.std.specs.Prelude.{Option, Some, None, Contains, MatchOption, option_
 use Rattle.std.specs.Option.{option_to_list}
 use Rattle.std.specs.List.{AllZip, list_all, list_any}
 use Rattle.std.proofs.lemmas.Bool.{true≢false, and_parts}
-use Rattle.std.proofs.lemmas.Int.{ints}
 use Rattle.profile.specs.text.Trees.{Tree}
-use Rattle.profile.specs.text.Values.{IsClockSeconds}
 use Rattle.profile.specs.series.Zones.{Zone}
 use Rattle.profile.specs.series.Rules.{Rule, RuleText}
 use Rattle.profile.specs.series.RoomZones.{IsRoomZone}
@@ -31,9 +29,8 @@ use Rattle.cal_events.specs.declared.instance.Single.{Single}
 use Rattle.cal_events.specs.declared.series.Series.{Series}
 use Rattle.cal_events.proofs.shared_lemmas.InOneOrder.{none_in, later, of_mapped}
 use Rattle.cal_events.proofs.shared_lemmas.OwnSingles.{of_both, master_alone, alone_master, override_alone, alone_override}
-use Rattle.cal_events.proofs.shared_lemmas.Placing.{one_placed, starts_there, slot_there, is_written}
+use Rattle.cal_events.proofs.shared_lemmas.Placing.{starts_there, slot_there, is_written}
 use Rattle.cal_events.proofs.shared_lemmas.RoomClocks.{room_clock}
-use Rattle.cal_events.proofs.with_zone_lemmas.Named.{placed_there}
 
 abbrev Lines : Type 0
 Lines = List (List ℕ)
@@ -185,12 +182,6 @@ fixed_placed room event fixed are =
       is = ap (λ (z : Option Zone). record event { times = record event.times { zone = z } }) (sym (fixed_zone room event.times.form event.times.zone inner.0));
     }
 
--- and only so
-pub only_fixed : (room : Option Zone) (event placed : EventComponent) → is_all_fixed event ≡ true → AreOfWritten event.written event.recurrence event.additions event.exceptions → IsPlaced room event placed
-    → placed ≡ event
-only_fixed room event placed fixed are p =
-    one_placed None (room_clock (codes "+0000") None refl).steady.meaning event placed event (placed_there room None event placed fixed p) (fixed_placed None event fixed are)
-
 -- the instants of what an ADD takes are those written, too
 pub added_of_written : (event : EventComponent) → AreOfWritten event.written event.recurrence event.additions event.exceptions
     → AreOfWritten (as_added event).written (as_added event).recurrence (as_added event).additions (as_added event).exceptions
@@ -198,26 +189,13 @@ added_of_written event are = record { slot = refl; added = are.added; taken = ar
 
 -- ---- where its times lie in a room
 
-pub clock_seconds : (t : ℤ) → IsInEventDates t → IsClockSeconds t
-clock_seconds t d = (omega (arith, ints, d.0, d.1), omega (arith, ints, d.0, d.1))
-
 module _ (words : List ℕ) (room : Option Zone) (named : IsRoomZone words room) (object : Tree) (m : Option Method) (lines : Lines) (event : EventComponent) (says : SaysEventComponent object m lines event) where
-  -- the instant of RECURRENCE-ID
-  pub recurrence_in_dates : (time : Time) (t : ℤ) → event.written.recurrence ≡ Some time → IsAt room time t → IsInEventDates t
-  recurrence_in_dates time t is at =
-      slot_there room (room_clock words room named) object says.occurrences.is.line event.written.recurrence (Some t) t says.occurrences.is.is
-      (subst (λ (w : Option Time). BothOrNeither (IsAt room) w (Some t)) (sym is) at) refl
-
   pub slot_in_dates : (slot : Option ℤ) (t : ℤ) → BothOrNeither (IsAt room) event.written.recurrence slot → slot ≡ Some t → IsInEventDates t
   slot_in_dates slot t both is = slot_there room (room_clock words room named) object says.occurrences.is.line event.written.recurrence slot t says.occurrences.is.is both is
 
   -- that of DTSTART
   pub start_in_dates : (t : ℤ) → IsAt room (start_written event) t → IsInEventDates t
   start_in_dates t at = starts_there room (room_clock words room named) object lines event.times t says.times at
-
--- there is one event in a room of a zone that words mean
-pub one_placed_in : (words : List ℕ) (room : Option Zone) → IsRoomZone words room → (event a b : EventComponent) → IsPlaced room event a → IsPlaced room event b → a ≡ b
-one_placed_in words room named event a b p q = one_placed room (room_clock words room named).steady.meaning event a b p q
 
 -- ---- what an ADD says has no rule
 

@@ -11,8 +11,7 @@ use Rattle.std.proofs.lemmas.Bool.{true≢false, and_parts}
 use Rattle.std.proofs.lemmas.List.{length-map, map-append}
 use Rattle.std.proofs.lemmas.List.Elements.{filter-append}
 use Rattle.std.proofs.lemmas.Slice.Eq.{bytes_eq-Decides}
-use Rattle.ical_lines.specs.Fault.{RefusesBy, RefusesOnly}
-use Rattle.profile.specs.faults.Faults.{is_object_fault, is_meeting_event_fault}
+use Rattle.ical_lines.specs.Fault.{RefusesBy}
 use Rattle.ical_lines.specs.declared.fault.Fault.{Fault}
 use Rattle.ical_lines.specs.declared.fault.Fault.TheVariants.{Refused, Memory}
 use Rattle.ical_tree.specs.Tree.{IsObjectOf, tree_of}
@@ -26,7 +25,7 @@ use Rattle.profile.specs.series.Zones.{Zone}
 use Rattle.profile.specs.events.Properties.{BothOrNeither}
 use Rattle.profile.specs.events.Placed.{IsAt, IsPlaced, SaysPlaced}
 use Rattle.profile.specs.events.EventComponents.{EventComponent as SaidComponent, meeting_said, Method, Store, Request, Add, Cancel, Reply, Refresh}
-use Rattle.profile.specs.events.Events.{Event, as_added, taken_by, is_same_meeting, is_master, is_override, is_meeting_fault, AreOfOne, OverridesApart, SaysEvent, SpellsEvent, EventFault, in_event, two_masters, two_overrides, no_event, two_meetings, EventTextFault, in_lines, in_tree, no_version, many_events, in_vevents}
+use Rattle.profile.specs.events.Events.{Event, as_added, taken_by, is_same_meeting, is_master, is_override, AreOfOne, OverridesApart, SaysEvent, SpellsEvent, EventFault, in_event, two_masters, two_overrides, no_event, two_meetings, EventTextFault, in_lines, in_tree, no_version, many_events, in_vevents}
 use Rattle.cal_events.specs.Component.{component_of, IsFaultAmong}
 use Rattle.cal_events.specs.declared.component.EventComponent.{EventComponent}
 use Rattle.cal_events.specs.MeetingComponents.{instants_said, NameInstances, AreOfObject, AreOfObjectIn, IsNotOne, SharesSlot}
@@ -211,20 +210,6 @@ module _ (room : Option Zone) (object : Tree) (vs : List (List (List ℕ))) (sam
       overrides = overrides;
       differ = subst (OverridesApart m) overrides differ;
     }
-
--- the numbers of what is between them
-pub not_one_number : (events : List SaidComponent) (n : ℕ) → IsNotOne events n → is_meeting_fault n ≡ true
-not_one_number events n (inl (is, _)) = ap is_meeting_fault is
-not_one_number events n (inr (is, _)) = ap is_meeting_fault is
-
-pub component_wider : (f : Fault) → RefusesOnly is_meeting_event_fault f → RefusesOnly is_meeting_fault f
-component_wider Memory h = tt
-component_wider (Refused r) h = wider (is_object_fault r.number) (is_meeting_event_fault r.number) _ _ _ h
-  where
-    wider : (a b c d e : Bool) → b ≡ true → (a || b || c || d || e) ≡ true
-    wider true true c d e h = refl
-    wider false true c d e h = refl
-    wider a false c d e h = absurd (cc)
 
 -- ---- as they are written
 

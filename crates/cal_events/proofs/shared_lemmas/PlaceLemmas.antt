@@ -1,7 +1,7 @@
 -- The places of overrides: in order, and what two binary searches find among them.
 -- Cited by first_moved of instances, override_at of instances, Places::first of places, Places::of of places, Places::which of places.
 use Rattle.std.proofs.Common.{◌≡◌, ◌∙◌, ℕ, zero, suc, ◌+◌, ◌<◌, ◌≤◌, Bool, true, false, not, ◌&&◌, ◌||◌, List, [], ◌∷◌, ◌++◌, length, get_or, subst, sym, refl, ap, inl, inr, ◌⊎◌, arith, ℤ, ◌<ℤ◌, Ordering}
-use Rattle.std.specs.Prelude.{Option, Some, None, All, Contains, IsTrue, int_lt}
+use Rattle.std.specs.Prelude.{Option, Some, None, All, Contains, int_lt}
 use Rattle.std.specs.List.{list_any}
 use Rattle.std.specs.declared.cmp.Ordering.TheVariants.{Less, Equal, Greater}
 use Rattle.std.specs.Ordering.{is_lt, int_eq, int_cmp, nat_cmp, ordering_then}
@@ -28,12 +28,6 @@ use Rattle.cal_events.proofs.shared_lemmas.InstanceLemmas.{soonest_same}
 use Rattle.cal_events.proofs.shared_lemmas.WholeLists.{order, past}
 
 -- ---- tests
-
-pub same_truth : (a b : Bool) → (IsTrue a → IsTrue b) → (IsTrue b → IsTrue a) → a ≡ b
-same_truth true true f g = refl
-same_truth true false f g = absurd (false≢true (f refl))
-same_truth false true f g = absurd (false≢true (g refl))
-same_truth false false f g = refl
 
 both_true : (a b : Bool) → a ≡ true → b ≡ true → (a && b) ≡ true
 both_true true true p q = refl
@@ -323,11 +317,6 @@ module _ (os : List EventComponent) (ms : List Moved) (are : ArePlaces os ms) wh
       soonest_same (IsPlaceToCome ms after) (λ p. (o : EventComponent) × Contains os o × IsMovedTo o after p) r
       (λ p (m, c, is, h). let o = of_override m c in (o.0, o.1, (subst (IsAtPlace o.0) is o.2, h)))
       (λ p (o, c, h). let m = has_place o p c h.0 in (m.0, m.1, m.2, h.1))
-
-  pub that_override : (place : InstancePlace) (which : ℕ) (o : EventComponent) → IsWhichAt ms place (Some which) → get_or os which o ≡ o → which < length os → Contains os o × IsAtPlace o place
-  that_override place which o (m, c, is, number) e w =
-      let h = All-contains (IsMovedOf os) ms m are.0 c in
-      ((which, w, e), subst (λ (x : EventComponent). IsAtPlace x place) (ap (λ k. get_or os k o) number ∙ e) (subst (IsAtPlace (get_or os m.which o)) is (h.1 o)))
 
   pub within : (place : InstancePlace) (which : ℕ) → IsWhichAt ms place (Some which) → which < length os
   within place which (m, c, is, number) = let h = All-contains (IsMovedOf os) ms m are.0 c in omega (arith, h.0, number)

@@ -135,12 +135,6 @@ pub record AreSoFar (master : EventComponent) (xs starts : List ℤ) : Type 0 wh
   pub kept : AreKept (IsLeftOver master) xs starts
   pub ascending : AllPairs ◌<ℤ◌ starts
 
-pub so_far_none : (master : EventComponent) → AreSoFar master [] []
-so_far_none master = record {
-  kept = λ t. ((λ c. absurd (none_in t c)), λ h. absurd (none_in t h.0));
-  ascending = λ i j d l w. absurd (omega (arith, w));
-}
-
 -- the last of ascending ones is the greatest
 below_last : (starts : List ℤ) (t x : ℤ) → AllPairs ◌<ℤ◌ starts → Contains starts t → ((u : ℤ) → Contains starts u → u ≤ℤ x) → (IsLast starts x → ⊥) → t <ℤ x
 below_last starts t x up (k, w, e) most not =

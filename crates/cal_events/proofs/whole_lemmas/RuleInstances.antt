@@ -1,22 +1,20 @@
 -- All instances of a series as a list, in no order: what its rule gives before year 10000.
 -- Cited by listed_series.
-use Rattle.std.proofs.Common.{◌≡◌, ◌∙◌, ℕ, zero, suc, ◌*◌, ◌/◌, ◌%◌, ◌<◌, Bool, true, false, List, [], ◌∷◌, codes, length, map, refl, sym, ap, subst, inl, inr, ◌⊎◌, arith, ℤ, pos, negsuc, ◌+ℤ◌, ◌≤ℤ◌, unsigned_abs}
-use Rattle.std.specs.Prelude.{Option, None, Some, is_some, Contains, ◌&&◌, ◌↔◌}
+use Rattle.std.proofs.Common.{◌≡◌, ◌∙◌, ℕ, zero, suc, ◌*◌, ◌/◌, ◌%◌, ◌<◌, Bool, true, false, List, [], ◌∷◌, length, map, refl, sym, ap, subst, inl, inr, ◌⊎◌, arith, ℤ, pos, negsuc, ◌+ℤ◌, ◌≤ℤ◌, unsigned_abs}
+use Rattle.std.specs.Prelude.{Option, None, Some, Contains, ◌&&◌, ◌↔◌}
 use Rattle.std.specs.Ordering.{int_eq}
 use Rattle.std.specs.List.{list_any}
 use Rattle.std.proofs.lemmas.Bool.{cases_order, true≢false}
 use Rattle.std.proofs.lemmas.Int.{ints, by_lt_z}
 use Rattle.profile.specs.checker.Instances.{Instance, horizon}
-use Rattle.profile.specs.text.Trees.{Tree}
 use Rattle.profile.specs.series.Rules.{Rule, is_rule_day}
 use Rattle.profile.specs.series.Zones.{Zone, Constant, Since, Until, IsOffsetAt, Means, IsOneMeaning, local_time}
 use Rattle.profile.specs.events.EventRules.{IsOnDay}
-use Rattle.profile.specs.events.EventComponents.{Method, EventComponent as SaidComponent, SaysEventComponent}
-use Rattle.profile.specs.events.Events.{Event as Whole, is_master}
+use Rattle.profile.specs.events.EventComponents.{EventComponent as SaidComponent}
+use Rattle.profile.specs.events.Events.{Event as Whole}
 use Rattle.profile.specs.events.Properties.{first_second}
 use Rattle.profile.specs.events.ZonedTimes.{clock_of}
 use Rattle.profile.specs.events.Starts.{key_at, IsGiven, IsRuleStart, IsInstance, IsDaysLater, EndsAt}
-use Rattle.profile.specs.events.Confirmed.{alone, has_series, IsOfSeries, AreOfRule}
 use Rattle.cal_zones.specs.Kinds.{zone_of, zone_of_form}
 use Rattle.cal_zones.specs.declared.zone.Form as kinds
 use Rattle.cal_zones.specs.declared.zone.Form.TheVariants as kind
@@ -26,8 +24,7 @@ use Rattle.cal_events.specs.Component.{times_of, form_said, zone_said, local_sai
 use Rattle.cal_events.specs.declared.when.When.{When}
 use Rattle.cal_events.specs.declared.when.When.TheVariants.{Utc, Zoned, Floating, WholeDay}
 use Rattle.cal_events.specs.MeetingComponents.{IsInEventDates}
-use Rattle.cal_events.specs.OwnInstances.{IsTimely}
-use Rattle.cal_events.specs.Series.{series_said, IsSeriesOf, IsSeriesWithout}
+use Rattle.cal_events.specs.Series.{series_said}
 use Rattle.cal_events.specs.Recurrence.{master_of}
 use Rattle.cal_events.specs.declared.recurrence.EventName.{EventName}
 use Rattle.cal_events.specs.declared.recurrence.Recurrence.{Recurrence}
@@ -36,10 +33,9 @@ use Rattle.cal_events.specs.declared.series.Series.{Series}
 use Rattle.cal_events.proofs.shared_lemmas.CountedFrom.{counted_there}
 use Rattle.cal_events.proofs.shared_lemmas.DraftKeys.{some_there}
 use Rattle.cal_events.proofs.shared_lemmas.HiddenLemmas.{has_at, has_from}
-use Rattle.cal_events.proofs.shared_lemmas.InOneOrder.{first_or_later, later, none_in, in_mapped, of_mapped}
+use Rattle.cal_events.proofs.shared_lemmas.InOneOrder.{first_or_later, later, none_in}
 use Rattle.cal_events.proofs.shared_lemmas.InstanceLemmas.{last_of_rule, one_second}
 use Rattle.cal_events.proofs.shared_lemmas.Meanings.{utc_means}
-use Rattle.cal_events.proofs.shared_lemmas.Placing.{placed_in_utc, placed_sound}
 use Rattle.cal_events.proofs.shared_lemmas.OwnSingles.{IsAtStart, of_master, at_start, from_start}
 use Rattle.cal_events.proofs.shared_lemmas.SeriesLemmas.{rule_gives, own_master, empty_list, one_start, at_its_start}
 
@@ -277,48 +273,12 @@ listed_instances series =
 abbrev pub instances_of : Series → List Instance
 instances_of series = (listed_instances series).0
 
-pub are_instances : (series : Series) (b : Instance) → Contains (instances_of series) b → IsInstance (series_said series) b
-are_instances series b c = ((listed_instances series).1 b).0 c
-
 pub all_instances : (series : Series) (b : Instance) → IsInstance (series_said series) b → Contains (instances_of series) b
 all_instances series b h = ((listed_instances series).1 b).1 h
 
--- those that are left of it
-pub left_instances : (series left : Series) (starts : List ℤ) → IsSeriesWithout (series_said series) starts (series_said left)
-    → (b : Instance) → Contains (instances_of left) b ↔ (Contains (instances_of series) b × (Contains starts b.start → ⊥))
-left_instances series left starts is b = (
-  (λ c. let h = (is.instances b).0 (are_instances left b c) in (all_instances series b h.0, h.1)),
-  λ c. all_instances left b ((is.instances b).1 (are_instances series b c.0, c.1)),
-)
-
--- an event's series has those that its rule gives
-pub of_its_rule : (event : SaidComponent) (series : Series) → IsSeriesOf event (series_said series) → AreOfRule event (Some (series_said series))
-of_its_rule event series is = (is.has, is.instances)
-
 -- ---- the times of what was read
-
-pub said_timely : (object : Tree) {m : Option Method} (lines : List (List ℕ)) (event : SaidComponent) → SaysEventComponent object m lines event → IsTimely event
-said_timely object {m} lines event s =
-    let x = placed_sound (codes "+0000") None refl object lines event (placed_in_utc object m lines event s) in record { steady = x.steady; starts = x.starts }
 
 -- ---- each instance of an event is of its series, or apart from it
 
 abbrev starts_of : Series → List ℤ
 starts_of series = map (λ (y : Instance). y.start) (instances_of series)
-
-pub of_series_or_apart : (event : SaidComponent) (series : Series) → IsSeriesOf event (series_said series) → (b : Instance) → IsInstance (alone event) b → IsOfSeries event b ⊎ (IsOfSeries event b → ⊥)
-of_series_or_apart event series is b h = go (list_any (λ own. int_eq own b.start) (starts_of series)) refl
-  where
-    go : (found : Bool) → list_any (λ own. int_eq own b.start) (starts_of series) ≡ found → IsOfSeries event b ⊎ (IsOfSeries event b → ⊥)
-    go true e =
-        let y = of_mapped (λ (z : Instance). z.start) (instances_of series) b.start (has_at (starts_of series) b.start e) in
-        let of = ((is.instances y.0).0 (are_instances series y.0 y.1)).1 in
-        inl (record { master = of.master; rule = of.rule; has = of.has; starts = subst (IsRuleStart event.times of.rule) y.2 of.starts })
-    go false e = inr (λ of. true≢false (sym (has_from (starts_of series) b.start (in_mapped (λ (z : Instance). z.start) (instances_of series) b (all_instances series b ((is.instances b).1 (h, of))))) ∙ e))
-
--- an event without a series has no instance of one
-pub apart_without : (event : SaidComponent) (b : Instance) → has_series event ≡ false → IsOfSeries event b → ⊥
-apart_without event b none of = true≢false (sym (both (is_master event) (is_some event.rule) of.master (ap (λ (o : Option Rule). is_some o) of.has)) ∙ none)
-  where
-    both : (a b : Bool) → a ≡ true → b ≡ true → (a && b) ≡ true
-    both a b p q = rw p (q)

@@ -1,6 +1,6 @@
 -- What a body is made of: instants in order, and the zone after its lines.
 -- Cited by ascending, canonical_body, write_list, write_others, write_rule, write_start and 1 more.
-use Rattle.std.proofs.Common.{◌≡◌, ◌∙◌, ℕ, ◌<◌, ◌+◌, List, [], ◌∷◌, ◌++◌, take, length, get_or, codes, refl, sym, ap, subst, arith, append_assoc, append-nil, ℤ, pos, negsuc, unsigned_abs, ◌≤◌, ◌≤ℤ◌, ◌*ℤ◌, ◌+ℤ◌, ◌<ℤ◌}
+use Rattle.std.proofs.Common.{◌≡◌, ◌∙◌, ℕ, ◌<◌, ◌+◌, List, [], ◌∷◌, ◌++◌, take, length, get_or, codes, refl, sym, ap, subst, arith, append_assoc, append-nil, ℤ, pos, ◌≤◌, ◌≤ℤ◌, ◌*ℤ◌, ◌+ℤ◌, ◌<ℤ◌}
 use Rattle.std.specs.Prelude.{AllPairs, Contains}
 use Rattle.std.specs.List.{dedup, flat_map, AllZip}
 use Rattle.std.specs.List.Sorted.{IsPermutation, IsSorted, IsStrictlySortedBy}
@@ -16,7 +16,6 @@ use Rattle.std.proofs.lemmas.Map.Keys.{Less-from_sorted}
 use Rattle.profile.specs.series.Zones.{Zone}
 use Rattle.profile.specs.text.Lines.{folded, written}
 use Rattle.profile.specs.rooms.Messages.{AreAscending, IsZoneRest, instants_in, zone_text}
-use Rattle.profile.specs.series.Days.{day_index}
 use Rattle.profile.specs.events.Occurrences.{Time}
 use Rattle.profile.specs.events.Properties.{Form, Fixed, Floating, WholeDay}
 use Rattle.itip_messages.proofs.body_lemmas.TimeLists.{of_form}
@@ -24,7 +23,7 @@ use Rattle.profile.specs.written.WrittenZones.{IsZoneText}
 use Rattle.profile.specs.text.Values.{IsClockSeconds}
 use Rattle.cal_events.specs.MeetingComponents.{IsInEventDates}
 use Rattle.cal_events.proofs.shared_lemmas.EventLemmas.{push_zip}
-use Rattle.itip_messages.specs.Body.{AppendsListed, AppendsOthers, AppendsTimes, AreShowable, IsMidnight, IsShowable, crlf_lines, writes_as}
+use Rattle.itip_messages.specs.Body.{AppendsListed, AppendsOthers, AppendsTimes, AreShowable, IsShowable, crlf_lines, writes_as}
 use Rattle.itip_messages.proofs.shared_lemmas.CleanBodies.{Lines, crlf_both}
 
 -- instants in order, each once
@@ -79,14 +78,6 @@ list_written body name text more i2 i3 i4 i5 b c d e =
     regroup : (a b c d e f : List ℕ) → (((a ++ (b ++ c)) ++ d) ++ e) ++ f ≡ a ++ (((b ++ c ++ d ++ e) ++ f) ++ [])
     regroup a b c d e f = simp (append_assoc, append-nil)
 
--- the name, with VALUE where it lists dates
-pub name_written : (body name i1 i2 : List ℕ) → i1 ≡ body ++ name → i2 ≡ i1 ++ codes ":" → i2 ≡ body ++ (name ++ codes ":")
-name_written body name i1 i2 a b = b ∙ ap (λ l. l ++ codes ":") a ∙ append_assoc body name (codes ":")
-
-pub dated_written : (body name i1 i2 : List ℕ) → i1 ≡ body ++ name → i2 ≡ i1 ++ codes ";VALUE=DATE:" → i2 ≡ body ++ ((name ++ codes ";VALUE=DATE") ++ codes ":")
-dated_written body name i1 i2 a b =
-    b ∙ ap (λ l. l ++ codes ";VALUE=DATE:") a ∙ append_assoc body name (codes ";VALUE=DATE:") ∙ ap (λ l. body ++ l) (sym (append_assoc name (codes ";VALUE=DATE") (codes ":")))
-
 -- three lists in turn
 pub listed_written : (name : List ℕ) (times : List Time) (i0 i1 i2 i3 : List ℕ) → AppendsTimes Fixed name (instants_in Fixed times) i0 i1 → AppendsTimes Floating name (instants_in Floating times) i1 i2
     → AppendsTimes WholeDay name (instants_in WholeDay times) i2 i3 → AppendsListed name times i0 i3
@@ -101,17 +92,6 @@ listed_written name times i0 i1 i2 i3 (a, v, p) (b, w, q) (d, x, r) = (
     regroup o a b c = simp (append_assoc)
 
 -- ---- whole days
-
--- the day with which a local time begins is its own
-pub midnight_day : (local day : ℤ) (second : ℕ) → IsMidnight local → second < 86_400 → local ≡ (day *ℤ pos 86_400) +ℤ pos second → local ≡ day *ℤ pos 86_400
-midnight_day local day second (clock, (own, e)) h sum = omega (arith, ints, e, h, sum)
-
-pub last_high : (day : ℤ) → day_index day ≤ 3_652_424 → day ≤ℤ pos 2_932_896
-last_high day h = by (day +ℤ pos 719_528) refl h
-  where
-    by : (x : ℤ) → x ≡ day +ℤ pos 719_528 → unsigned_abs x ≤ 3_652_424 → day ≤ℤ pos 2_932_896
-    by (pos n) e h = let m : n ≤ 3_652_424 = h in omega (arith, ints, e, m)
-    by (negsuc n) e h = omega (arith, ints, e)
 
 pub line_written : (body head text i1 i2 i3 : List ℕ) → i1 ≡ body ++ head → i2 ≡ i1 ++ text → i3 ≡ i2 ++ codes "\r\n" → i3 ≡ body ++ crlf_lines ((head ++ text) ∷ [])
 line_written body head text i1 i2 i3 a b c = c ∙ ap (λ l. l ++ codes "\r\n") (b ∙ ap (λ l. l ++ text) a) ∙ regroup body head text (codes "\r\n")
@@ -137,11 +117,6 @@ body_written start duration r a e zone i0 i1 i2 i3 i4 i5 i6 h0 h1 h2 h3 h4 h5 h6
 -- those of one form can be written as such
 pub form_shown : (form : Form) (times : List Time) → AreShowable times → (i : ℤ) → Contains (instants_in form times) i → IsShowable form i
 form_shown form times f i c = of_form form times IsShowable f i c
-
-pub showable_clock : (form : Form) (t : ℤ) → IsShowable form t → IsClockSeconds t
-showable_clock Fixed t h = h
-showable_clock Floating t h = h
-showable_clock WholeDay t h = h.0
 
 -- an instant that an event may name can be written as a stamp
 pub clock_named : (t : ℤ) → IsInEventDates t → IsClockSeconds t

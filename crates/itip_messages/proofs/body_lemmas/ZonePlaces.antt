@@ -1,6 +1,6 @@
 -- The octets of a content: its lines, and then its zone, which begins with the first line that begins one. And its lines under the name of the zone.
 -- Cited by zone_lines.
-use Rattle.std.proofs.Common.{◌≡◌, ◌∙◌, refl, sym, ap, subst, ℕ, zero, suc, ◌+◌, ◌-◌, ◌<◌, ◌≤◌, nat_lt, Bool, true, false, not, ◌&&◌, cond, ℤ, List, [], ◌∷◌, ◌++◌, map, length, take, drop, get_or, unwrap_or, codes, Option, None, Some, arith, append_assoc, append-nil}
+use Rattle.std.proofs.Common.{◌≡◌, ◌∙◌, refl, sym, ap, subst, ℕ, ◌+◌, ◌-◌, ◌<◌, ◌≤◌, Bool, true, false, not, ◌&&◌, cond, ℤ, List, [], ◌∷◌, ◌++◌, map, length, take, drop, get_or, unwrap_or, codes, Option, None, Some, arith, append_assoc, append-nil}
 use Rattle.std.specs.Prelude.{◌==◌}
 use Rattle.std.specs.List.{list_all, flat_map, AllZip, position_or_len}
 use Rattle.std.specs.Str.{IsUtf8}
@@ -28,7 +28,7 @@ use Rattle.ical_lines.proofs.CleanLines.{is_shown, shown_append, clean_shown}
 use Rattle.ical_values.proofs.ShownValues.{shown_local, shown_offset}
 use Rattle.itip_messages.proofs.shared_lemmas.WrittenOctets.{both_pass, date_passes, stamp_passes, local_passes, duration_passes, is_early, early_time, early_shown, rule_text_early, rule_lines_shown}
 use Rattle.itip_messages.specs.Body.{IsCutAtZone, crlf_lines, writes_as, zone_line, zone_octets, zone_place}
-use Rattle.itip_messages.proofs.shared_lemmas.CleanBodies.{Lines, AreClean, clean_each_shown, clean_take, written_utf8, utf8_ended, IsBodyOf, body_ended}
+use Rattle.itip_messages.proofs.shared_lemmas.CleanBodies.{Lines, AreClean, clean_each_shown, written_utf8, utf8_ended, IsBodyOf, body_ended}
 
 -- ---- the lines of a content
 
@@ -238,9 +238,6 @@ place_found xs (Some k) h = sym (ap (λ ks. get_or ks 0 (length xs)) (matches-fi
 
 pub lines_body : (content : Content) (event : EventComponent) → IsContent content event → IsBodyOf content.lines (crlf_lines content.lines)
 lines_body content event c = body_ended content.lines (clean_lines content event c)
-
-pub beginning_body : (content : Content) (event : EventComponent) → IsContent content event → (n : ℕ) → IsBodyOf (take n content.lines) (crlf_lines (take n content.lines))
-beginning_body content event c n = body_ended (take n content.lines) (clean_take n content.lines (clean_lines content event c))
 
 pub zone_utf8 : (content : Content) (event : EventComponent) → IsContent content event → IsUtf8 (zone_octets content.zone)
 zone_utf8 content event c = zone_utf8_by event.times.zone content.zone c.in_zone

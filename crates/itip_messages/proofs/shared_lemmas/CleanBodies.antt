@@ -1,6 +1,6 @@
 -- Lines that are ended by CRLF read as those lines, and are text.
 -- Behind ascending of body, canonical_body of body, write_list of body, write_others of body, write_rule of body, write_start of body and 12 more.
-use Rattle.std.proofs.Common.{◌+◌, cond, nat_lt, append-nil, ◌≡◌, ◌∙◌, ℕ, zero, suc, ◌-◌, ◌<◌, Bool, true, false, not, List, [], ◌∷◌, ◌++◌, take, drop, codes, refl, sym, ap, length, get_or, arith, append_assoc}
+use Rattle.std.proofs.Common.{◌+◌, cond, nat_lt, append-nil, ◌≡◌, ◌∙◌, ℕ, zero, suc, ◌-◌, ◌<◌, Bool, true, false, not, List, [], ◌∷◌, ◌++◌, take, codes, refl, sym, ap, length, get_or, arith, append_assoc}
 use Rattle.std.specs.Prelude.{◌==◌}
 use Rattle.std.specs.List.{list_all, list_any, slice_split}
 use Rattle.std.specs.Str.{IsUtf8, chars}
@@ -26,27 +26,10 @@ abbrev pub AreClean : Lines → Type 0
 AreClean [] = Unit {0}
 AreClean (line ∷ others) = IsClean line × AreClean others
 
-pub clean_both : (a b : Lines) → AreClean a → AreClean b → AreClean (a ++ b)
-clean_both [] b p q = q
-clean_both (line ∷ a) b p q = (p.0, clean_both a b p.1 q)
-
-pub clean_first : (a b : Lines) → AreClean (a ++ b) → AreClean a
-clean_first [] b p = tt
-clean_first (line ∷ a) b p = (p.0, clean_first a b p.1)
-
-pub clean_second : (a b : Lines) → AreClean (a ++ b) → AreClean b
-clean_second [] b p = p
-clean_second (line ∷ a) b p = clean_second a b p.1
-
 pub clean_take : (n : ℕ) (a : Lines) → AreClean a → AreClean (take n a)
 clean_take zero a p = tt
 clean_take (suc n) [] p = tt
 clean_take (suc n) (line ∷ a) p = (p.0, clean_take n a p.1)
-
-pub clean_drop : (n : ℕ) (a : Lines) → AreClean a → AreClean (drop n a)
-clean_drop zero a p = p
-clean_drop (suc n) [] p = tt
-clean_drop (suc n) (line ∷ a) p = clean_drop n a p.1
 
 pub clean_each_shown : (a : Lines) → list_all (list_all is_shown) a ≡ true → AreClean a
 clean_each_shown [] h = tt

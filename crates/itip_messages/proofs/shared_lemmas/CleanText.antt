@@ -1,6 +1,6 @@
 -- Durations and addresses in lower case may be in a line: no control octet, and UTF-8.
 -- Behind refreshes_are_heard of law, refreshes_read_back of law, replies_are_heard of law, replies_read_back of law, cancels_read_back of sent_law, requests_read_back of sent_law and 2 more.
-use Rattle.std.proofs.Common.{◌≡◌, ◌∙◌, ℕ, ◌^◌, ◌<◌, Bool, true, false, cond, nat_eq, List, [], ◌∷◌, ◌++◌, map, codes, decimal, refl, ap, arith}
+use Rattle.std.proofs.Common.{◌≡◌, ◌∙◌, ℕ, ◌^◌, ◌<◌, Bool, true, false, List, [], ◌∷◌, ◌++◌, map, refl, ap, arith}
 use Rattle.std.specs.List.{list_any, list_all}
 use Rattle.std.specs.Str.{IsUtf8, chars}
 use Rattle.std.specs.Char.{to_ascii_lowercase, IsScalar, is_ascii_alphabetic}
@@ -10,21 +10,12 @@ use Rattle.std.proofs.lemmas.List.Folds.{list_any-append}
 use Rattle.std.proofs.lemmas.Str.{scalars-chars}
 use lib.Utf8.{scalars}
 use Rattle.profile.specs.text.Lines.{is_control}
-use Rattle.profile.specs.text.Values.{duration_text, IsAddress, is_scheme, is_scheme_octet, is_path_octet, lower_case}
+use Rattle.profile.specs.text.Values.{IsAddress, is_scheme, is_scheme_octet, is_path_octet, lower_case}
 use Rattle.ical_values.proofs.Addresses.{lower_text, lower_address}
-use Rattle.ical_lines.proofs.CleanLines.{IsClean, is_shown, shown_append, shown_decimal}
+use Rattle.ical_lines.proofs.CleanLines.{IsClean}
 use Rattle.itip_messages.specs.Law.{IsTextAddress}
 
 -- ---- durations
-
-shown_duration_by : (a b : Bool) (d s : List ℕ) → list_all is_shown d ≡ true → list_all is_shown s ≡ true
-    → list_all is_shown (cond a (codes "PT" ++ s ++ codes "S") (cond b (codes "P" ++ d ++ codes "D") (codes "P" ++ d ++ codes "DT" ++ s ++ codes "S"))) ≡ true
-shown_duration_by true b d s p q = shown_append (codes "PT" ++ s) (codes "S") q refl
-shown_duration_by false true d s p q = shown_append (codes "P" ++ d) (codes "D") p refl
-shown_duration_by false false d s p q = shown_append (codes "P" ++ d ++ codes "DT" ++ s) (codes "S") (shown_append (codes "P" ++ d ++ codes "DT") s (shown_append (codes "P" ++ d) (codes "DT") p refl) q) refl
-
-pub shown_duration : (days seconds : ℕ) → days < 2 ^ 64 → seconds < 2 ^ 64 → list_all is_shown (duration_text days seconds) ≡ true
-shown_duration days seconds d s = shown_duration_by (nat_eq days 0) (nat_eq seconds 0) (decimal days) (decimal seconds) (shown_decimal days d) (shown_decimal seconds s)
 
 -- ---- addresses
 

@@ -1,13 +1,13 @@
 -- The names Z1, Z2, .. of zones: text without escapes, no two alike.
 -- Behind refreshes_are_heard of law, replies_are_heard of law, requests_read_back of sent_law, shown_reads_back of sent_law, stored_texts_can_be_sent of sent_law.
-use Rattle.std.proofs.Common.{◌≤◌, length, ◌≡◌, ◌∙◌, refl, ap, ℕ, ◌+◌, ◌<◌, ◌^◌, Bool, true, false, not, ◌&&◌, ◌||◌, cond, List, [], ◌∷◌, ◌++◌, drop, codes, Option, None, Some, arith}
+use Rattle.std.proofs.Common.{◌≤◌, ◌≡◌, ◌∙◌, refl, ap, ℕ, ◌+◌, ◌<◌, ◌^◌, Bool, true, false, not, ◌&&◌, ◌||◌, cond, List, [], ◌∷◌, ◌++◌, drop, codes, Option, None, Some, arith}
 use Rattle.std.specs.Prelude.{◌==◌, unwrap_or, option_map, filter}
 use Rattle.std.specs.Option.{option_to_list}
 use Rattle.std.specs.List.{list_all, find}
 use Rattle.std.specs.Str.{bytes_eq}
 use Rattle.std.proofs.lemmas.Bool.{and_parts, not-true}
 use Rattle.std.proofs.lemmas.Bool.Decides.{nat_tests}
-use Rattle.std.proofs.lemmas.Fmt.{decimal_injective, length-decimal-le}
+use Rattle.std.proofs.lemmas.Fmt.{decimal_injective}
 use Rattle.std.proofs.lemmas.Slice.Eq.{bytes_eq-Decides}
 use Rattle.profile.specs.events.Properties.{is_of, Says, BothOrNeither}
 use Rattle.profile.specs.events.ZonedTimes.{has_zone_name}
@@ -54,9 +54,6 @@ name_text place = record { calm = decimal_passes is_calm calm_digit (place + 1);
 
 pub name_itself : (place : ℕ) → escaped (kept_zone_name place) ≡ kept_zone_name place
 name_itself place = bare_itself (kept_zone_name place) (decimal_passes is_bare bare_digit (place + 1))
-
-pub name_short : (place : ℕ) → place + 1 < 2 ^ 64 → length (kept_zone_name place) ≤ 21
-name_short place h = omega (arith, length-decimal-le 20 (place + 1) (omega arith) (omega (arith, h)) h)
 
 -- each place has its own
 pub one_place : (a b : ℕ) → a + 1 < 2 ^ 64 → b + 1 < 2 ^ 64 → kept_zone_name a ≡ kept_zone_name b → a ≡ b

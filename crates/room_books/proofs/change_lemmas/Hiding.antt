@@ -1,10 +1,9 @@
 -- What a look-up in the view says of a hidden instance.
 -- Cited by is_start_hidden.
-use Rattle.std.proofs.Common.{◌≡◌, ℤ, Bool, true, false, ◌&&◌, Option, None, Some, sym, ap, subst, IsTrue, List}
+use Rattle.std.proofs.Common.{◌≡◌, ℤ, Bool, true, ◌&&◌, Option, None, Some, sym, ap, subst, IsTrue, List}
 use Rattle.std.specs.Prelude.{IfSome, IfNone, is_some}
 use denote.Ref.{Bor}
 use Rattle.std.specs.Ordering.{is_eq}
-use Rattle.std.specs.List.{list_any}
 use Rattle.std.proofs.lemmas.Bool.{and_parts, and_from, false_from_ne_true}
 use Rattle.itip_order.specs.Parts.{part_of}
 use Rattle.itip_order.specs.Registers.{RepresentsHistory, IsInView, HasNone, at_slot}
@@ -30,6 +29,3 @@ module _ (held history : List Part) (s : RepresentsHistory held history) (p : Pa
       let x = any_at (hides p booked.key.slot) history (and_parts _ _ h).1 in
       let both = and_parts _ _ x.2 in
       none history s x.0 both.0 (subst (λ (t : ℤ). same_place x.0 (record p { slot = At t }) ≡ true) e both.1)))
-
-  pub hidden_single : (t : ℤ) → p.slot ≡ At t → false ≡ is_hidden history p booked
-  hidden_single t w = ap (λ (x : Slot). is_eq (slot_cmp x Whole) && list_any (hides p booked.key.slot) history) (sym w)

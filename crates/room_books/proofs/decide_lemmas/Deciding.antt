@@ -120,9 +120,6 @@ module _ (all : List Instance) (k : MeetingKey) (kept wanted : List Single) (dif
   pub few_all : (n : ℕ) → n ≡ length all + length kept → n ≤ 10_000 → length wanted ≤ 10_000 - n → length both ≤ 10_000
   few_all n n_is few few_more = let l = length_is in omega (arith, n_is, few, few_more, l)
 
-  pub many_all : (n : ℕ) → n ≡ length all + length kept → n ≤ 10_000 → 10_000 - n < length wanted → 10_000 < length both
-  many_all n n_is few more = let l = length_is in omega (arith, n_is, few, more, l)
-
   -- two own ones clash
   pub own_named : (s r : Single) (clash : Clash) → Contains (kept ++ wanted) s → Contains (kept ++ wanted) r → s.slot ≢ r.slot → Overlap s.span r.span
       → IsLater s.span r.span clash.instant → AreBothNamed (keyed_instance k s) (keyed_instance k r) clash.instant clash → NamesClash (Contains both) (owned_key_of clash.first) (owned_key_of clash.second) clash.instant
@@ -290,15 +287,6 @@ module _ (k : MeetingKey) (es : List (MeetingKey × Meeting)) (distinct_keys : I
 
   own_differ : (s : Single) (b : Instance) → Contains other b → b.key ≢ (keyed_instance k s).key
   own_differ = others_differ k es
-
-  pub decides_limit : (outcome : Outcome) → outcome_of outcome ≡ messages.SinglesLimit → 10_000 - beside < length wanted → IsDecision other k kept wanted outcome
-  decides_limit outcome is more = record {
-    decides = λ distinct. subst (DecidesAmong (other ++ instance_list k (kept ++ wanted))) (sym is) (many_all other k kept wanted own_differ beside beside_is few more);
-    joins = λ accepted. absurd (limit_not_accept (sym is ∙ accepted));
-  }
-    where
-      limit_not_accept : messages.SinglesLimit ≡ messages.Accept → ⊥
-      limit_not_accept e = true≢false (sym (ap is_accept e))
 
   busy_not_accept : (a b : Key) (t : ℤ) → messages.Busy a b t ≡ messages.Accept → ⊥
   busy_not_accept a b t e = true≢false (sym (ap is_accept e))

@@ -1,11 +1,10 @@
 -- Meeting by meeting: what a room keeps is what it has confirmed, and no two kept answers are of one meeting.
 -- Behind kept_texts_pass, kept_texts_spell, served_texts_pass.
-use Rattle.std.proofs.Common.{◌≡◌, ◌≢◌, ◌∙◌, ℕ, Bool, true, false, not, List, [], ◌∷◌, length, map, refl, sym, ap, subst, arith, inl, inr, length-append}
+use Rattle.std.proofs.Common.{◌≡◌, ◌≢◌, ◌∙◌, ℕ, Bool, true, false, not, List, [], ◌∷◌, length, refl, ap, subst, inl, inr}
 use Rattle.std.specs.Ordering.{is_eq, ordering_then}
-use Rattle.std.specs.List.{filter, flat_map, Contains, AllPairs}
+use Rattle.std.specs.List.{filter, flat_map, Contains}
 use Rattle.std.proofs.lemmas.Bool.{not-true, both_ways, cases_Bool, false_from_ne_true, not_from_false}
 use Rattle.std.proofs.lemmas.Cmp.{tied_itself, tied_back}
-use Rattle.std.proofs.lemmas.List.Filters.{length-filter_both}
 use Rattle.profile.specs.rooms.Revisions.{Part, same_meeting, octets_cmp}
 use Rattle.profile.specs.rooms.Rooms.{PartAnswer, Book, is_confirmed}
 use Rattle.profile.specs.rooms.Kept.{first_parts}
@@ -14,7 +13,7 @@ use Rattle.itip_order.proofs.Lists.{in_cons, in_head, in_tail, none_in_nil, filt
 use Rattle.itip_order.proofs.Order.{meeting_total, is_eq_true}
 use Rattle.room_books.proofs.shared_lemmas.Arrivals.{meeting_congr}
 use Rattle.room_books.specs.Room.{Pairwise}
-use Rattle.room_books.proofs.shared_lemmas.Pairs.{pairs_from, pairs_append, pairs_filter, filter_through, filter_and, flat_at, flat_same, pairs_map}
+use Rattle.room_books.proofs.shared_lemmas.Pairs.{pairs_filter, filter_through, filter_and, flat_same}
 
 -- ---- meetings
 
@@ -87,48 +86,7 @@ others_same : (p q : Part) (xs : List PartAnswer) → Apart p q → filter (of_p
 others_same p q xs apart =
     filter_through (of_part q) (λ a. not (of_part p a)) xs (λ a c e. not_from_false _ (false_from_ne_true _ (λ f. both_ways _ apart (meeting_trans p a.claim.part q f (meeting_sym q a.claim.part e)))))
 
--- all answers are there, where the parts cover them
-pub grouped_long : (ps : List Part) (xs : List PartAnswer) → Pairwise Apart ps → ((a : PartAnswer) → Contains xs a → Covered ps a.claim.part) → length (grouped ps xs) ≡ length xs
-grouped_long [] xs d h = none_left xs (λ a c. let found = h a c in none_in_nil found.0 found.1)
-grouped_long (p ∷ ps) xs d h =
-    let rest : List PartAnswer = filter (λ a. not (of_part p a)) xs in
-    let others : grouped ps xs ≡ grouped ps rest = flat_same _ _ ps (λ q c. others_same p q xs (d.0 q c)) in
-    let covered : (a : PartAnswer) → Contains rest a → Covered ps a.claim.part = λ a c.
-    let from = filter_at (λ a. not (of_part p a)) xs a c in
-    let found = h a from.0 in
-    let P : Type 0 = Covered ps a.claim.part in
-    let there : P = elim (in_cons p ps found.0 found.1) [
-      | inl here ↦ absurd (both_ways _ (not-true _ from.1) (subst (λ (x : Part). same_meeting x a.claim.part ≡ true) (sym here) found.2))
-      | inr there ↦ (found.0, there, found.2)
-    ] in
-    there in
-    let more = grouped_long ps rest d.1 covered in
-    let both = length-filter_both (of_part p) (λ a. not (of_part p a)) (λ a. refl) xs in
-    omega (arith, length-append (filter (of_part p) xs) (grouped ps xs), ap length others, more, both)
-
-pub grouped_among : (ps : List Part) (xs : List PartAnswer) (a : PartAnswer) → Contains (grouped ps xs) a → Contains xs a
-grouped_among ps xs a c = let found = flat_at (λ p. filter (of_part p) xs) ps a c in (filter_at (of_part found.0) xs a found.2).0
-
--- and they stay apart
-pub grouped_apart : (ps : List Part) (xs : List PartAnswer) → Pairwise Apart ps → Pairwise AnswersApart xs → Pairwise AnswersApart (grouped ps xs)
-grouped_apart [] xs d a = tt
-grouped_apart (p ∷ ps) xs d a =
-    pairs_append AnswersApart (filter (of_part p) xs) (grouped ps xs) (pairs_filter AnswersApart (of_part p) xs a) (grouped_apart ps xs d.1 a)
-    (λ x y c k.
-    let of_p = (filter_at (of_part p) xs x c).1 in
-    let found = flat_at (λ q. filter (of_part q) xs) ps y k in
-    let of_q = (filter_at (of_part found.0) xs y found.2).1 in
-    false_from_ne_true _ (λ e. both_ways _ (d.0 found.0 found.1) (meeting_trans p y.claim.part found.0 (meeting_trans p x.claim.part y.claim.part of_p e) (meeting_sym found.0 y.claim.part of_q))))
-
 -- ---- what is kept
 
 pub kept_is : (book : Book) → kept book ≡ grouped (first_parts book.taken) (filter (is_confirmed book.taken) book.answers)
 kept_is book = flat_same _ _ (first_parts book.taken) (λ p c. filter_and (of_part p) (is_confirmed book.taken) book.answers)
-
-differing : (xs : List PartAnswer) → Pairwise AnswersApart xs → Pairwise (λ a b. meeting_of a ≢ meeting_of b) xs
-differing [] p = tt
-differing (a ∷ xs) p = (λ b c e. both_ways _ (p.0 b c) (meeting_same a b e), differing xs p.1)
-
--- answers apart have different meetings
-pub meetings_differ : (xs : List PartAnswer) → Pairwise AnswersApart xs → AllPairs ◌≢◌ (map meeting_of xs)
-meetings_differ xs p = pairs_from ◌≢◌ (map meeting_of xs) (pairs_map ◌≢◌ meeting_of xs (differing xs p))

@@ -6,12 +6,11 @@ use Rattle.std.specs.Option.{option_to_list}
 use Rattle.std.specs.List.{Contains, filter, flat_map}
 use Rattle.std.proofs.lemmas.Bool.{and_parts, and_from, true≢false, both_ways, not-true, not_from_false, false_from_ne_true, lt-ltb}
 use Rattle.std.proofs.lemmas.List.Elements.{Contains-append_left, Contains-append_right, Contains-append_cases, filter-append}
-use Rattle.std.proofs.lemmas.Grind.{flat_map-append}
 use Rattle.profile.specs.checker.Instances.{Instance, IsClear}
 use Rattle.profile.specs.events.Events.{Event}
 use Rattle.profile.specs.rooms.Revisions.{Part, in_view}
 use Rattle.profile.specs.rooms.Messages.{Outcome, Accept, Busy, SeriesLimit, SinglesLimit}
-use Rattle.profile.specs.rooms.Rooms.{Claim, PartAnswer, Book, Confirms, IsWithinLimits, Recurring, empty_book, is_accept, is_confirmed, is_hidden, left_of, recurring_in, singles_confirmed, confirmed_singles, confirmed_series, is_fresh, is_set, parts_of, asked, Decides, answered, IsStep, Delivery, Runs}
+use Rattle.profile.specs.rooms.Rooms.{Claim, PartAnswer, Book, Confirms, IsWithinLimits, Recurring, empty_book, is_accept, is_confirmed, is_hidden, left_of, recurring_in, confirmed_singles, confirmed_series, is_fresh, is_set, parts_of, asked, Decides, answered, IsStep, Delivery, Runs}
 use Rattle.itip_order.proofs.Lists.{in_cons, in_head, in_tail, none_in_nil, filter_at}
 use Rattle.room_books.proofs.shared_lemmas.Pairs.{flat_at, map_at, map_from}
 use Rattle.room_books.proofs.shared_lemmas.Views.{view_back, hidden_stays}
@@ -126,9 +125,6 @@ confirmed_back taken more answers known = record {
     shown a c e b h =
         let seen = (and_parts (is_accept a.outcome) (in_view (taken ++ more) a.claim.part) e).1 in
         false_from_ne_true (is_hidden taken a.claim.part b) (λ hidden. both_ways (is_hidden (taken ++ more) a.claim.part b) h (hidden_stays taken more a.claim.part b (known a c) seen hidden))
-
-pub confirmed_split : (taken : List Part) (xs ys : List PartAnswer) → singles_confirmed taken (xs ++ ys) ≡ singles_confirmed taken xs ++ singles_confirmed taken ys
-confirmed_split taken xs ys = ap (flat_map (left_of taken)) (filter-append (is_confirmed taken) xs ys) ∙ flat_map-append (left_of taken) (filter (is_confirmed taken) xs) (filter (is_confirmed taken) ys)
 
 -- of the same confirmed answers as much is confirmed
 same_less : (taken : List Part) (xs ys : List PartAnswer) → filter (is_confirmed taken) xs ≡ filter (is_confirmed taken) ys → ConfirmsLess (book_of taken xs) (book_of taken ys)

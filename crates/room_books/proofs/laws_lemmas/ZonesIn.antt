@@ -6,16 +6,14 @@ use Rattle.std.specs.Option.{option_to_list}
 use Rattle.std.specs.List.{flat_map, slice_get}
 use Rattle.std.specs.Str.{bytes_eq}
 use Rattle.std.proofs.lemmas.List.{length-append}
-use Rattle.std.proofs.lemmas.List.Elements.{Contains-append_left}
 use Rattle.std.proofs.lemmas.Slice.Eq.{bytes_eq-Decides}
 use Rattle.profile.specs.events.EventComponents.{EventComponent}
 use Rattle.profile.specs.events.Properties.{BothOrNeither}
 use Rattle.profile.specs.rooms.Messages.{Content, IsContent, IsZoneRest}
-use Rattle.profile.specs.rooms.Kept.{KeptComponent, Shown, Hidden, IsNamed, each_once, zone_kept, kept_zone_name, zones_kept}
+use Rattle.profile.specs.rooms.Kept.{KeptComponent, Shown, Hidden, each_once, zone_kept, zones_kept}
 use Rattle.profile.specs.rooms.Rooms.{Claim}
 use Rattle.profile.specs.series.Zones.{Zone}
 use Rattle.itip_messages.proofs.shared_lemmas.ZonedObjects.{IsZone}
-use Rattle.itip_messages.proofs.body_lemmas.TimeLists.{filter_short}
 use Rattle.itip_messages.proofs.shared_lemmas.ZonedStarts.{IsSaid}
 
 -- ---- each is one of them
@@ -35,10 +33,6 @@ once_from (x ∷ xs) z (zero, l, is) = (zero, omega arith, is)
 once_from (x ∷ xs) z (suc k, l, is) =
     let r = once_from xs z (in_filter (λ other. not (bytes_eq x other)) (each_once xs) z (k, omega (arith, l), is)).0 in
     (suc r.0, omega (arith, r.1), r.2)
-
-pub once_short : (xs : List (List ℕ)) → length (each_once xs) ≤ length xs
-once_short [] = omega arith
-once_short (x ∷ xs) = omega (arith, once_short xs, filter_short (λ other. not (bytes_eq x other)) (each_once xs))
 
 -- ---- and each is there
 
@@ -131,25 +125,8 @@ entries_short : (entries : List KeptComponent) → length (flat_map zone_kept en
 entries_short [] = omega arith
 entries_short (e ∷ es) = omega (arith, entry_short e, entries_short es, length-append (zone_kept e) (flat_map zone_kept es))
 
-pub zones_kept_short : (entries : List KeptComponent) → length (zones_kept entries) ≤ length entries
-zones_kept_short entries = omega (arith, once_short (flat_map zone_kept entries), entries_short entries)
-
 -- ---- the name of an entry's zone
 
 in_second : {X : Type 0} (xs ys : List X) (z : X) → Contains ys z → Contains (xs ++ ys) z
 in_second [] ys z c = c
 in_second (x ∷ xs) ys z c = let r = in_second xs ys z c in (suc r.0, omega (arith, r.1), r.2)
-
-among_entries : (entries : List KeptComponent) (entry : KeptComponent) (z : List ℕ) → Contains entries entry → Contains (zone_kept entry) z → Contains (flat_map zone_kept entries) z
-among_entries [] entry z c d = absurd (omega (arith, c.1))
-among_entries (e ∷ es) entry z (zero, l, is) d = Contains-append_left (zone_kept e) (flat_map zone_kept es) z (subst (λ (x : KeptComponent). Contains (zone_kept x) z) (sym is) d)
-among_entries (e ∷ es) entry z (suc k, l, is) d = in_second (zone_kept e) (flat_map zone_kept es) z (among_entries es entry z (k, omega (arith, l), is) d)
-
-pub zone_has_name : (entries : List KeptComponent) (claim : Claim) → Contains entries (Shown claim) → (name : List ℕ) × IsNamed (zones_kept entries) claim.content.zone name
-zone_has_name entries claim c = go claim.content.zone (λ z d. among_entries entries (Shown claim) z c d)
-  where
-    go : (o : Option (List ℕ)) → ((z : List ℕ) → Contains (option_to_list o) z → Contains (flat_map zone_kept entries) z) → (name : List ℕ) × IsNamed (zones_kept entries) o name
-    go None f = ([], tt)
-    go (Some rest) f =
-        let r = once_there (flat_map zone_kept entries) rest (f rest (zero, omega arith, refl)) in
-        (kept_zone_name r.0, (r.0, r.1, refl))

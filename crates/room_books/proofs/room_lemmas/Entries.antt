@@ -7,10 +7,10 @@ use Rattle.std.specs.Map.{keys_of, lookup}
 use Rattle.std.proofs.lemmas.Map.Views.{lookup-from_Contains}
 use Rattle.itip_order.proofs.Lists.{in_head, in_tail, filter_at}
 use Rattle.profile.specs.checker.Instances.{Instance}
-use Rattle.profile.specs.rooms.Rooms.{PartAnswer, Book, Recurring, confirmed_singles, confirmed_series, is_confirmed, left_of, recurring_in, series_confirmed}
+use Rattle.profile.specs.rooms.Rooms.{PartAnswer, Book, Recurring, confirmed_singles, is_confirmed, left_of, recurring_in, series_confirmed}
 use Rattle.room_books.specs.declared.meeting.MeetingKey.{MeetingKey}
 use Rattle.room_books.specs.declared.kept.Meeting.{Meeting}
-use Rattle.room_books.specs.Meeting.{same_key, all_confirmed, all_recurring, confirmed_of, in_room, recurring_of}
+use Rattle.room_books.specs.Meeting.{same_key, all_confirmed, confirmed_of, in_room, recurring_of}
 use Rattle.room_books.specs.Room.{is_of_meeting, of_meeting, answers_of, book_of, AreSameSeries, Meets, MeetsAt, Represents}
 use Rattle.room_books.proofs.shared_lemmas.Confirms.{zip_confirms, zip_recurs}
 use Rattle.room_books.proofs.shared_lemmas.Keys.{key_congr}
@@ -71,6 +71,3 @@ module _ (entries : List (MeetingKey × Meeting)) (book : Book) (st : Represents
 
   pub as_many : length (all_confirmed entries) ≡ length (confirmed_singles book)
   as_many = sym same_confirmed.singles.long
-
-  pub as_many_series : length (all_recurring entries) ≡ length (confirmed_series book)
-  as_many_series = sym same_confirmed.series.long

@@ -1,6 +1,6 @@
 -- Slots in order, and the look-up of one among them.
 -- Cited by is_touched of slots, stays of taking.
-use Rattle.std.proofs.Common.{◌≡◌, ◌∙◌, ℕ, ◌+◌, ◌<◌, Bool, true, false, List, [], ◌∷◌, ◌++◌, length, get_or, take, map, refl, sym, ap, arith, inl, inr, Result, Ok, Err}
+use Rattle.std.proofs.Common.{◌≡◌, ◌∙◌, ℕ, ◌+◌, ◌<◌, true, List, [], ◌∷◌, ◌++◌, length, refl, sym, ap, arith, inl, inr, Result, Ok, Err}
 use Rattle.std.specs.declared.cmp.Ordering.TheVariants.{Equal}
 use Rattle.std.specs.List.{Contains, filter}
 use Rattle.std.specs.List.Sorted.{IsSearchInRange, IsBinarySearchResult, IsSortedByKey}
@@ -23,8 +23,6 @@ use Rattle.profile.specs.rooms.Rooms.{is_accept}
 use Rattle.room_books.specs.declared.meeting.PartAnswer.{PartAnswer}
 use Rattle.room_books.specs.Texts.{accepted_slots, has_slot}
 use Rattle.room_books.specs.Meeting.{outcome_of}
-use Rattle.std.proofs.lemmas.List.{map-append}
-use Rattle.room_books.proofs.shared_lemmas.Loops.{filter_yes, filter_no, one_more}
 use Rattle.room_books.proofs.shared_lemmas.Pairs.{map_at, map_from}
 
 -- ---- slots
@@ -84,16 +82,3 @@ accepted_at answers slot h =
     (given.0, from.0, ap slot_of given.2 ∙ slot_same (slot_of one.0) slot one.2, from.1)
 
 -- ---- one more answer
-
-pub slots_push : (answers : List PartAnswer) (slots new : List Slot) (i : ℕ) (x : PartAnswer) → i < length answers → x ≡ get_or answers i x → new ≡ slots ++ x.slot ∷ [] → slots ≡ accepted_slots (take i answers)
-    → is_accept (outcome_of x.outcome) ≡ true → new ≡ accepted_slots (take (i + 1) answers)
-slots_push answers slots new i x lt is e same h =
-    let f : PartAnswer → Bool = λ g. is_accept (outcome_of g.outcome) in
-    e ∙ ap (λ l. l ++ x.slot ∷ []) same ∙ sym (map-append (λ (g : PartAnswer). g.slot) (filter f (take i answers)) (x ∷ []))
-    ∙ ap (map (λ (g : PartAnswer). g.slot)) (filter_yes f (take i answers) (filter f (take i answers)) x refl h ∙ ap (filter f) (sym (one_more answers i x lt is)))
-
-pub slots_pass : (answers : List PartAnswer) (slots : List Slot) (i : ℕ) (x : PartAnswer) → i < length answers → x ≡ get_or answers i x → slots ≡ accepted_slots (take i answers)
-    → is_accept (outcome_of x.outcome) ≡ false → slots ≡ accepted_slots (take (i + 1) answers)
-slots_pass answers slots i x lt is same h =
-    let f : PartAnswer → Bool = λ g. is_accept (outcome_of g.outcome) in
-    same ∙ ap (map (λ (g : PartAnswer). g.slot)) (filter_no f (take i answers) (filter f (take i answers)) x refl h ∙ ap (filter f) (sym (one_more answers i x lt is)))

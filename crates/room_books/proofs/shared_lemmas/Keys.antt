@@ -1,6 +1,6 @@
 -- Keys of meetings are equal where their octets are; the place of a key among the meetings.
 -- Behind busy_beside of decide, busy_beside_series of decide, decide of decide, own_overlap of decide, is_among of gone, sort of gone and 34 more.
-use Rattle.std.proofs.Common.{◌≡◌, ℕ, ◌<◌, true, ◌&&◌, cond, List, inl, inr, None, Some, refl, sym, ap, ◌∙◌, subst, length, get_or, arith}
+use Rattle.std.proofs.Common.{◌≡◌, ℕ, ◌<◌, true, ◌&&◌, cond, List, inl, inr, None, Some, sym, ap, ◌∙◌, subst, length, get_or, arith}
 use Rattle.std.specs.Prelude.{◌==◌, nat_lt}
 use Rattle.std.specs.Str.{bytes_eq}
 use Rattle.std.specs.List.{position, position_or_len, IsDistinct}
@@ -10,13 +10,8 @@ use Rattle.std.proofs.lemmas.Map.Keys.{apart_from_distinct}
 use Rattle.std.proofs.lemmas.Slice.Eq.{bytes_eq-Decides}
 use Rattle.ical_values.specs.Octets.{address_octets, text_octets}
 use Rattle.room_books.specs.declared.meeting.MeetingKey.{MeetingKey}
-use Rattle.room_books.specs.contracts.meeting.MeetingKeyPartialEq.TheImpl.{eq-value}
 use Rattle.room_books.specs.Meeting.{same_key}
 use Rattle.room_books.specs.Timeline.{is_own_place}
-
--- the keys' own equality compares their octets
-pub key_eq_is : (a b : MeetingKey) → eq-value.it a b ≡ same_key a b
-key_eq_is a b = refl
 
 pub key_congr : (a b z : MeetingKey) → same_key a b ≡ true → same_key a z ≡ same_key b z
 key_congr a b z e =

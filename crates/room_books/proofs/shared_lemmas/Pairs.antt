@@ -1,6 +1,6 @@
 -- Lists of which no two elements are related, filters of them, and their parts one after another.
 -- Cited by busy_beside_series of decide, Views::any_fresh of taking, Views::any_same of taking, Views::unheard of taking, Timeline::change of timeline.
-use Rattle.std.proofs.Common.{◌≡◌, ◌∙◌, zero, suc, ◌≤◌, Bool, true, false, ◌&&◌, cond, List, [], ◌∷◌, ◌++◌, length, get_or, map, refl, sym, ap, subst, arith, inl, inr}
+use Rattle.std.proofs.Common.{◌≡◌, ◌∙◌, zero, suc, ◌≤◌, Bool, true, false, ◌&&◌, cond, List, [], ◌∷◌, ◌++◌, get_or, map, refl, sym, ap, subst, arith, inl, inr}
 use Rattle.std.specs.List.{filter, flat_map, Contains, AllPairs}
 use Rattle.std.proofs.lemmas.Bool.{true≢false}
 use Rattle.std.proofs.lemmas.List.Elements.{Contains-get_or, Contains-append_left, Contains-append_right, Contains-append_cases}
@@ -13,11 +13,6 @@ module _ {X : Type 0} where
   pairs_from R (x ∷ xs) p i zero d lt l = absurd (omega arith)
   pairs_from R (x ∷ xs) p zero (suc j) d lt l = p.0 (get_or xs j d) (Contains-get_or xs j d (omega arith))
   pairs_from R (x ∷ xs) p (suc i) (suc j) d lt l = pairs_from R xs p.1 i j d (omega arith) (omega arith)
-
-  pub pairs_short : (R : X → X → Type 0) (xs : List X) → length xs ≤ 1 → Pairwise R xs
-  pairs_short R [] l = tt
-  pairs_short R (x ∷ []) l = (λ y c. absurd (none_in_nil y c), tt)
-  pairs_short R (x ∷ y ∷ xs) l = absurd (omega arith)
 
   pub pairs_append : (R : X → X → Type 0) (xs ys : List X) → Pairwise R xs → Pairwise R ys → ((x y : X) → Contains xs x → Contains ys y → R x y) → Pairwise R (xs ++ ys)
   pairs_append R [] ys p q f = q
@@ -56,10 +51,6 @@ module _ {X : Type 0} where
   filter_through f g (x ∷ xs) h =
       both_tests (f x) (g x) x (filter f xs) (filter f (filter g xs)) (filter_through f g xs (λ y c. h y (in_tail x xs y c))) (h x (in_head x xs)) f refl
       ∙ sym (through_cond f (g x) x (filter g xs))
-
-  -- a stronger test keeps fewer
-  pub pairs_stronger : (R : X → X → Type 0) (f g : X → Bool) (xs : List X) → ((x : X) → Contains xs x → f x ≡ true → g x ≡ true) → Pairwise R (filter g xs) → Pairwise R (filter f xs)
-  pairs_stronger R f g xs h p = subst (Pairwise R) (sym (filter_through f g xs h)) (pairs_filter R f (filter g xs) p)
 
   and_cond : (a b : Bool) (x : X) (xs ys : List X) → xs ≡ ys → (f : X → Bool) → f x ≡ a → cond (a && b) (x ∷ xs) xs ≡ filter f (cond b (x ∷ []) []) ++ ys
   and_cond true true x xs ys e f h = ap (λ l. x ∷ l) e ∙ sym (ap (λ c. cond c (x ∷ []) [] ++ ys) h)

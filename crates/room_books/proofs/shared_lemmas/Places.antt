@@ -7,7 +7,7 @@ use Rattle.std.specs.Map.{lookup, keys_of}
 use Rattle.std.proofs.lemmas.Bool.{cases_Bool, both_ways, and_parts, and_from, eq-eqb, eqb-true, not-true}
 use Rattle.std.proofs.lemmas.Int.{ints}
 use Rattle.std.proofs.lemmas.List.{get_or-map, length-map}
-use Rattle.std.proofs.lemmas.List.Elements.{Contains-append_left, Contains-append_right, Contains-append_cases, Contains-get_or}
+use Rattle.std.proofs.lemmas.List.Elements.{Contains-append_left, Contains-append_right, Contains-append_cases}
 use Rattle.std.proofs.lemmas.Map.Keys.{IsDistinct-tail, IsDistinct-head}
 use Rattle.std.proofs.lemmas.Option.{slice_get-get_or, slice_get_within, get_or_from_slice_get}
 use Rattle.std.proofs.lemmas.Slice.Eq.{bytes_eq-Decides}
@@ -20,7 +20,7 @@ use Rattle.room_books.specs.declared.kept.Meeting.{Meeting}
 use Rattle.cal_events.specs.declared.instance.Single.{Single}
 use Rattle.cal_events.specs.declared.sweep.Span.{Span}
 use Rattle.room_books.specs.declared.timeline.Busy.{Busy}
-use Rattle.room_books.specs.Gone.{HaveInstant, AreSeparate}
+use Rattle.room_books.specs.Gone.{HaveInstant}
 use Rattle.room_books.specs.Meeting.{same_key, is_other, keyed_instance, instance_list, slots_of, meeting_singles, confirmed_of, confirmed_at, singles_in, singles_by, others, all_confirmed, all_recurring, all_series, other_recurring, recurring_of, series_at, series_by, series_in, series_of, instance_span}
 use Rattle.room_books.specs.Timeline.{is_own_place, HoldsInstants, holds_instants, busy_in, has_single, AreAt, IsTimelineOf, IsFreeBut, IsChanged}
 use Rattle.room_books.proofs.timeline_lemmas.Timelines.{has_at, has_from, single_at, single_from, holds_from}
@@ -296,19 +296,3 @@ pub slots_at : (singles : List Single) (i j : ℕ) (d : Single) → AllPairs ◌
 slots_at singles i j d differ less within same =
     differ i j d.slot less (let l = length-map singles (λ (s : Single). s.slot) in omega (arith, within, l))
     (get_or-map (λ (s : Single). s.slot) singles i d d.slot (omega (arith, less, within)) ∙ same ∙ sym (get_or-map (λ (s : Single). s.slot) singles j d d.slot within))
-
--- the instances of a meeting that are clear share no instant
-pub clear_separate : (k : MeetingKey) (all : List Instance) (singles : List Single) → IsClear (Contains (all ++ instance_list k singles)) → AllPairs ◌≢◌ (slots_of singles) → AreSeparate singles
-clear_separate k all singles clear differ i j d less within t h =
-    let place : (n : ℕ) → n < length singles → Contains (all ++ instance_list k singles) (keyed_instance k (get_or singles n d)) =
-    λ n l. Contains-append_right all (instance_list k singles) (keyed_instance k (get_or singles n d)) (booked_from k singles (get_or singles n d) (Contains-get_or singles n d l)) in
-    clear (keyed_instance k (get_or singles i d)) (keyed_instance k (get_or singles j d)) t (place i (omega (arith, less, within))) (place j within) record {
-      differ = λ e. slots_at singles i j d differ less within (ap (λ (z : Key). z.slot) e);
-      before = h.before;
-      in_first = h.in_first;
-      in_second = h.in_second;
-    }
-
--- none of them occurs twice
-pub slots_once : (singles : List Single) → AllPairs ◌≢◌ (slots_of singles) → AllPairs ◌≢◌ singles
-slots_once singles differ i j d less within same = slots_at singles i j d differ less within (ap (λ (z : Single). z.slot) same)

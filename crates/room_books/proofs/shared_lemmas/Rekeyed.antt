@@ -60,9 +60,3 @@ module _ (key : MeetingKey) (s : Series) where
         },
         λ i. record { key = h.key i; start = b.start; end = b.end },
       )
-
-  -- an instance that recurs is known by its start
-  pub slot_is_start : (x : Single) → Recurs s x → x.slot ≡ x.span.start
-  slot_is_start x r =
-      let h = at_start own r.booked (subst (λ (w : Whole). IsInstance w r.booked) said_is r.is) in
-      r.slot ∙ ap (λ (k : Key). k.slot) h.key ∙ sym (ap (λ (z : Span). z.start) r.span)

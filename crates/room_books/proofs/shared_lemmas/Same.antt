@@ -1,6 +1,6 @@
 -- Lists with the same elements, and as many.
 -- Behind busy_beside of decide, busy_beside_series of decide, decide of decide, own_overlap of decide, is_among of gone, sort of gone and 30 more.
-use Rattle.std.proofs.Common.{◌≡◌, List, ◌++◌, inl, inr, refl, sym, ◌∙◌, length, arith, length-append}
+use Rattle.std.proofs.Common.{◌≡◌, List, ◌++◌, inl, inr, refl, ◌∙◌, length, arith, length-append}
 use Rattle.std.specs.List.{Contains}
 use Rattle.std.proofs.lemmas.List.Elements.{Contains-append_left, Contains-append_right, Contains-append_cases}
 use Rattle.profile.specs.checker.Instances.{Instance, IsClear}
@@ -41,9 +41,6 @@ module _ {X : Type 0} where
     from = λ x h. swapped b a c x h;
     long = omega (arith, length-append a (b ++ c), length-append b (a ++ c), length-append a c, length-append b c);
   }
-
-  pub same_turned : (xs ys : List X) → AreSame xs ys → AreSame ys xs
-  same_turned xs ys same = record { to = same.from; from = same.to; long = sym same.long }
 
 pub clear_same : (xs ys : List Instance) → AreSame xs ys → IsClear (Contains ys) → IsClear (Contains xs)
 clear_same xs ys same clear a b t in_a in_b clash = clear a b t (same.to a in_a) (same.to b in_b) clash

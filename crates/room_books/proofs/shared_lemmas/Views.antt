@@ -7,23 +7,14 @@ use Rattle.std.specs.Ordering.{is_eq, is_le, is_gt, ordering_reverse, ordering_t
 use Rattle.std.specs.List.{Contains, filter, flat_map}
 use Rattle.std.proofs.lemmas.Bool.{and_parts, and_from, or_cases, or_left, or_right, both_ways, true≢false, cases_Bool, false_from_ne_true, true_from_ne_false}
 use Rattle.std.proofs.lemmas.Cmp.{upto}
-use Rattle.std.proofs.lemmas.List.Elements.{Contains-append_left, Contains-push_cases}
+use Rattle.std.proofs.lemmas.List.Elements.{Contains-append_left}
 use Rattle.itip_order.proofs.Lasting.{greatest_of, gone_for_good, revision_le}
 use Rattle.itip_order.proofs.Lists.{all_at, all_from, any_at, any_from}
-use Rattle.itip_order.proofs.Order.{slot_total, meeting_total, revision_total, part_total, is_eq_true, then_equal}
+use Rattle.itip_order.proofs.Order.{slot_total, meeting_total, revision_total, is_eq_true, then_equal}
 use Rattle.itip_order.proofs.Registers.{Greatest, greatest_at, greatest_from, greatest_unique, implies_at, implies_from, place_sym, place_trans}
 use Rattle.profile.specs.checker.Instances.{Instance}
 use Rattle.profile.specs.rooms.Revisions.{Slot, Whole, At, Revision, Part, slot_cmp, meeting_cmp, revision_cmp, part_cmp, same_meeting, same_place, is_whole, is_greatest, implies, stays_beside, leaves_in_view, in_view}
-use Rattle.profile.specs.rooms.Rooms.{PartAnswer, is_confirmed, is_hidden, left_of, singles_confirmed}
-
--- one of two parts of a place is at most the other
-pub le_unless : (w q : Part) → is_le (part_cmp w q) ≡ false → is_le (part_cmp q w) ≡ true
-le_unless w q above = ap is_le (part_total.antisymm q w) ∙ reversed (part_cmp w q) above
-  where
-    reversed : (o : Ordering) → is_le o ≡ false → is_le (ordering_reverse o) ≡ true
-    reversed Less e = absurd (true≢false e)
-    reversed Equal e = absurd (true≢false e)
-    reversed Greater e = refl
+use Rattle.profile.specs.rooms.Rooms.{PartAnswer, is_hidden, left_of}
 
 -- a part that was taken, and is in the view once more are taken, was in it
 pub view_back : (h more : List Part) (p : Part) → Contains h p → in_view (h ++ more) p ≡ true → in_view h p ≡ true
@@ -143,10 +134,3 @@ left_all taken whole a = left_in taken whole a.claim.part a.claim.singles
 all_left : (taken : List Part) → AllWhole taken → (xs : List PartAnswer) → flat_map (left_of taken) xs ≡ flat_map (λ a. a.claim.singles) xs
 all_left taken whole [] = refl
 all_left taken whole (a ∷ xs) = ap₂ (λ x y. x ++ y) (left_all taken whole a) (all_left taken whole xs)
-
-pub confirmed_all : (taken : List Part) → AllWhole taken → (answers : List PartAnswer) → singles_confirmed taken answers ≡ flat_map (λ a. a.claim.singles) (filter (is_confirmed taken) answers)
-confirmed_all taken whole answers = all_left taken whole (filter (is_confirmed taken) answers)
-
--- one more
-pub whole_more : (taken : List Part) (part : Part) → AllWhole taken → part.slot ≡ Whole → AllWhole (taken ++ part ∷ [])
-whole_more taken part all own q c = elim (Contains-push_cases taken part q c) [ inl old ↦ all q old | inr new ↦ subst (λ (z : Part). z.slot ≡ Whole) new own ]
