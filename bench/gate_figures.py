@@ -72,13 +72,14 @@ def costs(given, lines, own):
     """What the gate took, by kind and for 1,000 lines of code, and its dearest edits."""
     rows = rows_of(given.gate)
     seconds = {kind[0]: float(kind[1]) for kind in rows if kind[0] not in ("crate", "edit")}
-    clock, whole = seconds.pop("minutes on the clock"), seconds["all"]
+    # measured in parts it has no such line
+    clock, whole = seconds.pop("minutes on the clock", None), seconds["all"]
     is_split = any(it[0] == "edit" for it in rows)
     if not is_split:
         # a kit that tries them where bench/gate.py doesn't see them
         seconds = {("edits, with their crates' second proofs, and the rest" if kind == "rest" else kind): it for kind, it in seconds.items() if it}
     edits = sorted(((float(it[2]), it[1]) for it in rows if it[0] == "edit"), reverse=True)
-    said = f"Measured on {given.machine}: {whole / 60:.0f} processor minutes, user and sys together, in {clock:.0f} minutes on the clock; "
+    said = f"Measured on {given.machine}: {whole / 60:.0f} processor minutes, user and sys together{f', in {clock:.0f} minutes on the clock' if clock else ''}; "
     said += f"{whole / 60 / lines * 1000:.1f} processor minutes for 1,000 lines of code ({whole / 60 / own * 1000:.1f} where the lines of examples and tests aren't counted)."
     table = [row(("Kind", "Processor minutes", "Share")), "|---|---:|---:|"]
     table += [row((kind, f"{it / 60:.1f}", f"{100 * it / whole:.0f} %")) for kind, it in seconds.items()]
