@@ -18,9 +18,12 @@ module _ {X : Type 0} (same : X → X → Bool) (xs : List X) (next : ℕ) (firs
   behind x = get_or_default xs next x b within ∙ sym b_is
 
   pub equal_at : true ≡ same a b → HaveEqual same xs
-  equal_at h =
-      (next - 1, omega (arith, first, within), λ x.
-        ap (λ y. same y (get_or xs (next - 1 + 1) x)) (there x) ∙ ap (λ j. same a (get_or xs j x)) before ∙ ap (same a) (behind x) ∙ sym h)
+  equal_at h = (
+    next - 1,
+    omega (arith, first, within),
+    λ x.
+        ap (λ y. same y (get_or xs (next - 1 + 1) x)) (there x) ∙ ap (λ j. same a (get_or xs j x)) before ∙ ap (same a) (behind x) ∙ sym h,
+  )
 
   pub one_further : AllAdjacentBelow (λ p q. same p q ≡ false) xs next → false ≡ same a b → AllAdjacentBelow (λ p q. same p q ≡ false) xs (next + 1)
   one_further h differ k x w =
