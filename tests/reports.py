@@ -46,6 +46,18 @@ def as_they_come(cases, program):
     child.stderr.close()
 
 
+def told(cases, program):
+    """What is told of an object: its UID without the lines that follow, and of two parts of a zone STANDARD, as its lines are judged first."""
+    folded = changed({5: "UID:a|DESCRIPTION:one| two", 7: ""})
+    lines = "roombox: object 1: refused 63, REQUEST, UID a\nroombox: 1 object, 1 refused (63: 1)\n"
+    cases.holds("a folded line behind UID", run(program, "serve", "--report", given=PREAMBLE + folded)[2], lines)
+    daylight = "BEGIN:DAYLIGHT|DTSTART:19810329T020000|TZOFFSETFROM:+0100|TZOFFSETTO:+0200|RRULE:FREQ=YEARLY;UNTIL=20300331T010000Z;BYDAY=-1SU;BYMONTH=3|END:DAYLIGHT"
+    standard = "BEGIN:STANDARD|DTSTART:19961027T030000|TZOFFSETFROM:+0200|TZOFFSETTO:+0100|RRULE:FREQ=YEARLY;UNTIL=20301027T010000Z;BYDAY=-1SU;BYMONTH=10|END:STANDARD"
+    zoned = changed({4: f"BEGIN:VTIMEZONE|TZID:B|{daylight}|{standard}|END:VTIMEZONE|BEGIN:VEVENT", 9: "DTSTART;TZID=B:20250310T090000"})
+    said = run(program, "explain", given=zoned)[1].splitlines()[1]
+    cases.holds("rules of both parts are in the way", said, "STANDARD at line 12: its RRULE has UNTIL. `roombox adapt` makes an object of it that is read.")
+
+
 def devices(cases, program, parent):
     """Which device failed, and why."""
     absent, folder = str(parent / "absent"), str(parent / "folder")
@@ -122,6 +134,7 @@ def main():
     program, cases = str(Path(sys.argv[1]).resolve()), Cases()
     full_standard_error(cases, program)
     as_they_come(cases, program)
+    told(cases, program)
     for part in (devices, boxes):
         with tempfile.TemporaryDirectory() as folder:
             part(cases, program, Path(folder))
