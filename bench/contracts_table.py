@@ -37,7 +37,7 @@ CALLS = {
     },
     "read": {
         "ical_lines": ["Unfolded::read", "split_line", "without_mark", "Line::*", "Lines::next_text", "cut", "Cutter::*", "object_ends_with_its_line", "first_line_end"],
-        "ical_tree": ["read_object", "one_tree", "Properties::of", "Properties::optional", "Properties::required"],
+        "ical_tree": ["read_object", "Object::read", "one_tree", "Properties::of", "Properties::optional", "Properties::required"],
         "cal_days": ["Day::of", "Day::of_number", "Day::number", "Day::weekday", "number_at", "one_date", "same_after_400_years", "periods_grow", "PeriodIndex::of"],
         "ical_values": ["Stamp::read", "LocalTime::read", "Duration::read", "UtcOffset::read", "Text::read", "Text::read_uid", "Address::read", "Sequence::read", "read_date",
                         "LocalTime::of_day", "LocalTime::day_and_second", "seconds_at"],

@@ -2,7 +2,7 @@
 ghost use Rattle.std.specs.Prelude.{ℕ, List, [], ◌∷◌, ◌++◌, ◌≡◌, ◌≢◌, ◌<◌, map, filter, length, AllPairs, is_some, ◌&&◌, true, IfOk, IfErr, OnOk};
 ghost use Rattle.ical_lines.specs.Fault.{RefusesOnly, RefusesBy};
 ghost use Rattle.ical_values.specs.Octets.{address_octets};
-ghost use Rattle.ical_tree.specs.Tree.{tree_of};
+ghost use Rattle.ical_tree.specs.Tree.{component_lines, tree_of};
 ghost use Rattle.profile.specs.faults.Faults.{is_between, is_calendar_fault};
 ghost use Rattle.profile.specs.checker.Calendars.{CalendarFault, CalendarTextFault};
 ghost use Rattle.profile.specs.events.EventComponents.{EventComponent as SaidComponent};
@@ -26,7 +26,7 @@ use crate::series::Series;
 use crate::single_starts::single_starts;
 use crate::zones::ZonesOfObject;
 use ical_lines::{Fault, Limits, Refusal, Unfolded};
-use ical_tree::{Component, read_object};
+use ical_tree::{Component, Object, Properties};
 use ical_values::Address;
 use std::alloc::{AllocError, Global};
 
@@ -58,22 +58,24 @@ impl Draft {
         ensures fault { IfErr result (RefusesBy (CalendarTextFault bytes.now)) }
     {
         let text = Unfolded::read(alloc, bytes, Limits::Open)?;
-        let object = read_object(alloc, &text, Limits::Open)?;
-        Draft::of_object(alloc, &object, room)
+        let object = Object::read(alloc, &text, Limits::Open)?;
+        Draft::of_object(alloc, &object.calendar, &object.own, room)
     }
 
-    /// That of an object that was read.
+    /// That of an object that was read, of which these are the own lines.
     /// Refused: 44 for the zone of the room; as by `EventComponent::read` for a VEVENT.
     pub(crate) fn of_object(
         alloc: Global,
         object: &Component,
+        own: &Properties<'_>,
         room: &Address,
     ) -> Result<Draft, Fault>
+        requires { own.now ≡ component_lines object.now }
         ensures says { IfOk result (IsDraftOf (address_octets room.now) (tree_of object.now)) }
         ensures refuses { IfErr result (RefusesOnly is_calendar_fault) }
         ensures fault { IfErr result (RefusesBy (CalendarFault (tree_of object.now))) }
     {
-        let zone = read_room_zone(alloc, object)?;
+        let zone = read_room_zone(alloc, own)?;
         // Only for the proof: its words mean it.
         zone.words_mean();
         let zones = ZonesOfObject::of(alloc, object)?;

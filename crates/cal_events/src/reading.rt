@@ -49,7 +49,8 @@ impl Calendar {
         ensures refuses { IfErr result (RefusesOnly is_calendar_fault) }
         ensures fault { IfErr result (RefusesBy (CalendarFault (tree_of object.now))) }
     {
-        let draft = Draft::of_object(alloc, object, room)?;
+        let own = Properties::of(alloc, object)?;
+        let draft = Draft::of_object(alloc, object, &own, room)?;
         draft.into_calendar(alloc)
     }
 }
@@ -170,11 +171,10 @@ pub(crate) fn read_events(
 
 /// The zone of the room of a calendar, which its own lines name by X-ROOM-ZONE; UTC where that is missing.
 /// Refused: 44 where it occurs twice, or its words mean no zone.
-pub(crate) fn read_room_zone(alloc: Global, object: &Component) -> Result<RoomZone, Fault>
-    ensures names { IfOk result (λ room. NamesRoomZone (component_lines object.now) (room_of room)) }
-    ensures fault { IfErr result (RefusesBy (λ n. (n ≡ 44) × RoomZoneFault (component_lines object.now))) }
+pub(crate) fn read_room_zone(alloc: Global, properties: &Properties<'_>) -> Result<RoomZone, Fault>
+    ensures names { IfOk result (λ room. NamesRoomZone properties.now (room_of room)) }
+    ensures fault { IfErr result (RefusesBy (λ n. (n ≡ 44) × RoomZoneFault properties.now)) }
 {
-    let properties = Properties::of(alloc, object)?;
     match properties.optional("X-ROOM-ZONE", Refusal::ROOM_ZONE)? {
         Some(line) => RoomZone::read(alloc, line.value()),
         None => Ok(RoomZone::utc()),

@@ -9,14 +9,13 @@ ghost use Rattle.profile.specs.series.RoomZones.{IsRoomZone};
 ghost use Rattle.profile.specs.events.Properties.{lines_named};
 ghost use Rattle.profile.specs.events.Confirmed.{Confirmed};
 ghost use Rattle.profile.specs.checker.Calendars.{IsWithZone, AreAllFixed, SpellsCalendar, CertificateHolds};
-ghost use Rattle.ical_tree.specs.Tree.{component_lines};
 ghost use Rattle.cal_zones.specs.RoomZones.{words_of};
 ghost use Rattle.cal_events.specs.WithZone.{NamesNoZone, HasZoneLine, WithZoneFault};
 
 use crate::calendar::Calendar;
 use cal_zones::RoomZone;
 use ical_lines::{Fault, Limits, Refusal, Unfolded, first_line_end};
-use ical_tree::{Component, Properties, one_tree, read_object};
+use ical_tree::{Object, Properties, one_tree};
 use std::alloc::{AllocError, Global};
 
 impl Calendar {
@@ -46,8 +45,8 @@ fn zone_place(alloc: Global, bytes: &[u8]) -> Result<usize, Fault>
 {
     one_tree();
     let text = Unfolded::read(alloc, bytes, Limits::Open)?;
-    let object = read_object(alloc, &text, Limits::Open)?;
-    judge_unnamed(alloc, &object)?;
+    let object = Object::read(alloc, &text, Limits::Open)?;
+    judge_unnamed(&object.own)?;
     let Some(end) = first_line_end(bytes) else {
         // An object has two lines or more.
         unreachable!();
@@ -55,18 +54,14 @@ fn zone_place(alloc: Global, bytes: &[u8]) -> Result<usize, Fault>
     Ok(end)
 }
 
-/// Refused with 44 where an own line of the object names the zone of its room.
-fn judge_unnamed(alloc: Global, object: &Component) -> Result<(), Fault>
-    ensures unnamed { IfOk result (λ _. lines_named (codes "X-ROOM-ZONE") (component_lines object.now) ≡ []) }
-    ensures refuses { IfErr result (RefusesOnly is_calendar_fault) }
-    ensures fault { IfErr result (RefusesBy (λ n. (n ≡ 44) × HasZoneLine (component_lines object.now))) }
+/// Refused with 44 where an own line of a calendar names the zone of its room.
+fn judge_unnamed(properties: &Properties<'_>) -> Result<(), Refusal>
+    ensures unnamed { IfOk result (λ _. lines_named (codes "X-ROOM-ZONE") properties.now ≡ []) }
+    ensures fault { IfErr result (λ e. (e.number ≡ 44) × HasZoneLine properties.now) }
 {
-    let properties = Properties::of(alloc, object)?;
-    let Ok(given) = properties.optional("X-ROOM-ZONE", Refusal::ROOM_ZONE) else {
-        return Err(Fault::Refused(Refusal::ROOM_ZONE));
-    };
+    let given = properties.optional("X-ROOM-ZONE", Refusal::ROOM_ZONE)?;
     if given.is_some() {
-        return Err(Fault::Refused(Refusal::ROOM_ZONE));
+        return Err(Refusal::ROOM_ZONE);
     }
     Ok(())
 }

@@ -14,6 +14,7 @@ pub struct Component<'a> {
 
 impl<'a> Component<'a> {
     ghost use Rattle.std.specs.Prelude.{◌≡◌, ◌++◌, ◌∷◌, [], OnOk, OnErr};
+    ghost use Rattle.std.specs.List.{flat_map};
     ghost use Rattle.profile.specs.text.Lines.{is_same_name};
     ghost use Rattle.ical_tree.specs.Runs.{run_lines, lines_left};
     ghost use Rattle.ical_tree.specs.Tree.{component_name, component_lines, component_children};
@@ -50,6 +51,13 @@ impl<'a> Component<'a> {
         ensures { lines_left result ≡ component_lines self.now }
     {
         OwnLines::of(self.runs.as_slice())
+    }
+
+    /// The runs that those lines are in, in order.
+    pub(crate) fn runs(&self) -> &[Run<'a>]
+        ensures { flat_map run_lines result.now ≡ component_lines self.now }
+    {
+        self.runs.as_slice()
     }
 
     /// The components directly inside, in order.

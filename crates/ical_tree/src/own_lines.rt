@@ -42,7 +42,7 @@ impl<'a> Run<'a> {
     }
 
     /// The first line of the run, which is then without it.
-    fn take_first(&mut self) -> Option<Line<'a>>
+    pub(crate) fn take_first(&mut self) -> Option<Line<'a>>
         ensures { MatchOption result ((run_lines self.old ≡ []) × (run_lines self.new ≡ []))
             (λ line. run_lines self.old ≡ line_text line ∷ run_lines self.new) }
     {

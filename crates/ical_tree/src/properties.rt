@@ -1,6 +1,11 @@
 //! The own lines of a component, for questions by the names of its properties (RFC 5545 3.1, 3.6, 3.8).
 
+ghost use Rattle.std.specs.Prelude.{◌≡◌, ◌++◌, map, OnOk};
+ghost use Rattle.ical_lines.specs.Text.{line_text};
+ghost use Rattle.ical_tree.specs.Runs.{run_lines};
+
 use crate::component::Component;
+use crate::own_lines::Run;
 use ical_lines::{Line, Refusal};
 use std::alloc::{AllocError, Global};
 use std::marker::Model;
@@ -29,14 +34,15 @@ impl<'a> Properties<'a> {
     ghost use Rattle.ical_tree.specs.Tree.{component_lines};
     ghost use Rattle.profile.specs.events.Properties.{OccursAtMostOnce, OccursMoreThanOnce, IsMissing};
 
-    /// The own lines of a component, in order. It fails only when out of memory.
-    pub fn of(alloc: Global, component: &'a Component) -> Result<Properties<'a>, AllocError>
+    /// The own lines of a component, in order. They borrow the text that it was read from, and not the component.
+    /// It fails only when out of memory.
+    pub fn of(alloc: Global, component: &Component<'a>) -> Result<Properties<'a>, AllocError>
         ensures { IfOk result (λ properties. properties ≡ component_lines component.now) }
     {
         let mut lines = Vec::new(alloc);
         lines.reserve(USUAL_LINES)?;
-        for line in component.lines() {
-            lines.push(line)?;
+        for run in component.runs() {
+            push_lines(&mut lines, *run)?;
         }
         Ok(Properties { lines })
     }
@@ -76,4 +82,15 @@ impl<'a> Properties<'a> {
     {
         self.optional(name, not_once)?.ok_or(not_once)
     }
+}
+
+/// Appends the lines of a run, each with its parts found, in order. It fails only when out of memory.
+fn push_lines<'a>(lines: &mut Vec<Line<'a>>, run: Run<'a>) -> Result<(), AllocError>
+    ensures { OnOk result (map line_text lines.new.items ≡ map line_text lines.old.items ++ run_lines run.entry) }
+{
+    let mut left = run;
+    while let Some(line) = left.take_first() {
+        lines.push(line)?;
+    }
+    Ok(())
 }

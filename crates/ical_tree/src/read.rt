@@ -48,6 +48,34 @@ const MAX_DEPTH: usize = 8;
 /// The most VEVENTs of one message; this profile's choice.
 const MAX_EVENTS: usize = 200;
 
+/// An object that was read, and the own lines of its VCALENDAR with their parts found: they are cut once, for all that is asked of them.
+#[derive(Drop)]
+pub struct Object<'a> {
+    pub calendar: Component<'a>,
+    pub own: Properties<'a>,
+}
+
+impl<'a> Object<'a> {
+    /// Reads an unfolded text as one object. The own lines of its VCALENDAR are kept beside it as they were cut to look for VERSION.
+    /// Refused: as by `read_object`.
+    pub fn read(alloc: Global, text: &'a Unfolded<'_>, limits: Limits) -> Result<Object<'a>, Fault>
+        ensures spelled { IfOk result (λ object. IsObjectOf (is_bounded limits) object.calendar text.now) }
+        ensures own { IfOk result (λ object. object.own ≡ component_lines object.calendar) }
+        ensures fault { IfErr result (RefusesBy (λ n. TreeHas (is_bounded limits) n text.now)) }
+        ensures refuses { IfErr result (RefusesOnly is_object_fault) }
+    {
+        let mut lines = text.lines();
+        let mut reader = Reader::new(alloc, lines);
+        while let Some(line) = lines.next_text() {
+            reader.take(alloc, line, lines)?;
+        }
+        let calendar = reader.finish()?;
+        let own = Properties::of(alloc, &calendar)?;
+        check_calendar(&calendar, &own, limits)?;
+        Ok(Object { calendar, own })
+    }
+}
+
 /// Reads an unfolded text as one object: a VCALENDAR with all that is inside, which borrows the text.
 ///
 /// It refuses, in text order: an END with nothing open or of another name than the open component (20), a component
@@ -64,14 +92,8 @@ pub fn read_object<'a>(
     ensures fault { IfErr result (RefusesBy (λ n. TreeHas (is_bounded limits) n text.now)) }
     ensures refuses { IfErr result (RefusesOnly is_object_fault) }
 {
-    let mut lines = text.lines();
-    let mut reader = Reader::new(alloc, lines);
-    while let Some(line) = lines.next_text() {
-        reader.take(alloc, line, lines)?;
-    }
-    let calendar = reader.finish()?;
-    check_calendar(alloc, &calendar, limits)?;
-    Ok(calendar)
+    let object = Object::read(alloc, text, limits)?;
+    Ok(object.calendar)
 }
 
 /// What the lines so far have spelled.
@@ -258,20 +280,20 @@ fn is_calendar(name: &str) -> bool
     name.eq_ignore_ascii_case("VCALENDAR")
 }
 
-/// Judges a VCALENDAR as a whole: its VERSION, and how many VEVENTs it has.
-fn check_calendar(alloc: Global, calendar: &Component, limits: Limits) -> Result<(), Fault>
-    requires { IsCalendar calendar.now }
+/// Judges a VCALENDAR as a whole, of which these are the own lines: its VERSION, and how many VEVENTs it has.
+fn check_calendar(calendar: &Component, own: &Properties<'_>, limits: Limits) -> Result<(), Refusal>
+    requires calendar { IsCalendar calendar.now }
+    requires own { own.now ≡ component_lines calendar.now }
     ensures version { OnOk result (has_version (component_lines calendar.now) ≡ true) }
     ensures events { OnOk result ((is_bounded limits && nat_lt 200 (count_children (codes "VEVENT") calendar.now)) ≡ false) }
-    ensures fault { IfErr result (RefusesOnly (λ n. calendar_has (is_bounded limits) n calendar.now)) }
-    ensures refuses { IfErr result (RefusesOnly is_object_fault) }
+    ensures fault { IfErr result (λ e. IsTrue (calendar_has (is_bounded limits) e.number calendar.now)) }
+    ensures refuses { IfErr result (λ e. IsTrue (is_object_fault e.number)) }
 {
-    let properties = Properties::of(alloc, calendar)?;
-    if !has_version(&properties) {
-        return Err(Fault::Refused(Refusal::BAD_VERSION));
+    if !has_version(own) {
+        return Err(Refusal::BAD_VERSION);
     }
     if exceeds_events(calendar, limits) {
-        return Err(Fault::Refused(Refusal::TOO_MANY_EVENTS));
+        return Err(Refusal::TOO_MANY_EVENTS);
     }
     Ok(())
 }

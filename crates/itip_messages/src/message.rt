@@ -3,7 +3,7 @@
 ghost use Rattle.std.specs.Prelude.{◌≡◌, ◌<◌, ℕ, true, List, Contains, Some, map, length, option_map, IfOk, IfErr, IsSome};
 ghost use Rattle.std.specs.List.{AllZip};
 ghost use Rattle.ical_lines.specs.Fault.{RefusesOnly, RefusesBy};
-ghost use Rattle.ical_tree.specs.Tree.{tree_of};
+ghost use Rattle.ical_tree.specs.Tree.{component_lines, tree_of};
 ghost use Rattle.ical_values.specs.Octets.{address_octets, text_octets};
 ghost use Rattle.profile.specs.faults.Faults.{is_message_fault};
 ghost use Rattle.profile.specs.events.Messages as profile;
@@ -21,7 +21,7 @@ use crate::message_component::{MessageComponent, own_revision};
 use crate::message_events::read_events;
 use cal_events::{EventComponent, Method};
 use ical_lines::{Fault, Limits, Unfolded};
-use ical_tree::{Component, read_object};
+use ical_tree::{Component, Object, Properties};
 use ical_values::{Address, Text};
 use itip_order::Revision;
 use std::alloc::{AllocError, Global};
@@ -51,19 +51,20 @@ impl Message {
         ensures fault { IfErr result (ReadFault bytes.now) }
     {
         let text = Unfolded::read(alloc, bytes, Limits::Message)?;
-        let object = read_object(alloc, &text, Limits::Message)?;
-        Message::of_object(alloc, &object)
+        let object = Object::read(alloc, &text, Limits::Message)?;
+        Message::of_object(alloc, &object.calendar, &object.own)
     }
 
-    /// The message that an object is. Where it says one, some octets spell that.
+    /// The message that an object of these own lines is. Where it says one, some octets spell that.
     /// Refused: as by `read`, except for the object.
-    fn of_object(alloc: Global, object: &Component) -> Result<Message, Fault>
+    fn of_object(alloc: Global, object: &Component, own: &Properties<'_>) -> Result<Message, Fault>
+        requires own { own.now ≡ component_lines object.now }
         requires spelled { (said : profile.Message) → SaysMessage (tree_of object.now) said → (octets : List ℕ) × SpellsMessage octets said }
         ensures says { IfOk result (IsMessageOf (tree_of object.now)) }
         ensures refuses { IfErr result (RefusesOnly is_message_fault) }
         ensures fault { IfErr result (RefusesBy (MessageFault (tree_of object.now))) }
     {
-        let (method, events) = read_events(alloc, object)?;
+        let (method, events) = read_events(alloc, object, own)?;
         Ok(Message::of(alloc, object, method, events)?)
     }
 

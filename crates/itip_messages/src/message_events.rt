@@ -4,7 +4,7 @@ ghost use Rattle.std.specs.List.{list_all};
 ghost use Rattle.std.specs.Str.{bytes_eq};
 ghost use Rattle.ical_lines.specs.Fault.{RefusesOnly, RefusesBy};
 ghost use Rattle.ical_lines.specs.Text.{line_text};
-ghost use Rattle.ical_tree.specs.Tree.{tree_of};
+ghost use Rattle.ical_tree.specs.Tree.{component_lines, tree_of};
 ghost use Rattle.ical_values.specs.Octets.{address_octets};
 ghost use Rattle.profile.specs.faults.Faults.{is_message_fault};
 ghost use Rattle.profile.specs.text.Lines.{line_value};
@@ -19,18 +19,19 @@ use ical_lines::{Fault, Refusal};
 use ical_tree::{Component, Properties};
 use std::alloc::Global;
 
-/// What an object asks for, and what its VEVENTs say, in the order of the text, as its METHOD takes them.
+/// What an object of these own lines asks for, and what its VEVENTs say, in the order of the text, as its METHOD takes them.
 /// Refused: as by `Message::read`, except for the object.
 pub(crate) fn read_events(
     alloc: Global,
     object: &Component,
+    own: &Properties<'_>,
 ) -> Result<(Method, Vec<EventComponent>), Fault>
+    requires { own.now ≡ component_lines object.now }
     ensures says { IfOk result (λ read. SaysEvents (tree_of object.now) (method_said read.0) (map component_of read.1.items)) }
     ensures refuses { IfErr result (RefusesOnly is_message_fault) }
     ensures fault { IfErr result (RefusesBy (MessageFault (tree_of object.now))) }
 {
-    let properties = Properties::of(alloc, object)?;
-    let method = method_of(&properties)?;
+    let method = method_of(own)?;
     let events = read_meeting(alloc, object, Some(method))?;
     judge_attendees(method, &events)?;
     Ok((method, events))

@@ -14,7 +14,7 @@ use crate::message_component::slot_in;
 use crate::message_events::read_events;
 use cal_events::EventComponent;
 use ical_lines::{Fault, Limits, Unfolded};
-use ical_tree::{Component, read_object};
+use ical_tree::{Component, Object};
 use itip_order::Slot;
 use std::alloc::{AllocError, Global};
 
@@ -31,9 +31,9 @@ pub fn component_lines(
     ensures fault { IfErr result (ReadFault octets.now) }
 {
     let text = Unfolded::read(alloc, octets, Limits::Message)?;
-    let object = read_object(alloc, &text, Limits::Message)?;
-    let (_, events) = read_events(alloc, &object)?;
-    Ok(lines_of_slot(alloc, &object, &events, slot)?)
+    let object = Object::read(alloc, &text, Limits::Message)?;
+    let (_, events) = read_events(alloc, &object.calendar, &object.own)?;
+    Ok(lines_of_slot(alloc, &object.calendar, &events, slot)?)
 }
 
 /// The own lines of the VEVENT that is of a slot, where the VEVENTs say these events. It fails only when out of memory.

@@ -92,9 +92,9 @@ zone_refuses object Memory h = tt
 zone_refuses object (Refused r) (n, fault) =
     subst (CalendarFault (tree_of object)) (sym n) (in_zone (subst RoomZoneFault (sym (tree_of-own object)) fault))
 
-pub zone_number : (object : Component) (f : Fault) → RefusesBy (λ n. (n ≡ 44) × RoomZoneFault (component_lines object)) f → RefusesOnly is_calendar_fault f
-zone_number object Memory h = tt
-zone_number object (Refused r) (n, fault) = ap is_calendar_fault n
+pub zone_number : (own : Lines) (f : Fault) → RefusesBy (λ n. (n ≡ 44) × RoomZoneFault own) f → RefusesOnly is_calendar_fault f
+zone_number own Memory h = tt
+zone_number own (Refused r) (n, fault) = ap is_calendar_fault n
 
 -- the zone that its one line names
 pub room_named : (r : Result RoomZone Fault) (own : Lines) (line value : List ℕ) → OccursAtMostOnce (codes "X-ROOM-ZONE") own (Some line) → value ≡ line_value line

@@ -20,16 +20,19 @@ returns-in_err-object-clause-fault c =
 
 pub returns-in_err-events-clause-fault : goal.returns-in_err-events-clause-fault
 returns-in_err-events-clause-fault c =
-    let is = subst (λ (ls : List (List ℕ)). IsObjectOf true c.in_ok-object.object ls) c.in_ok-text.ensures.lines c.in_ok-object.ensures.spelled in
-    object_refused c.from_residual-in_err-events.result c.args.octets.now c.in_ok-object.object _ is c.from_residual-in_err-events.ensures.1 c.in_err-events.ensures.fault
+    let is = subst (λ (ls : List (List ℕ)). IsObjectOf true c.in_ok-object.object.calendar ls) c.in_ok-text.ensures.lines c.in_ok-object.ensures.spelled in
+    object_refused c.from_residual-in_err-events.result c.args.octets.now c.in_ok-object.object.calendar _ is c.from_residual-in_err-events.ensures.1 c.in_err-events.ensures.fault
+
+pub read_events-requires : goal.read_events-requires
+read_events-requires c = c.in_ok-object.ensures.own
 
 pub lines_of_slot-requires : goal.lines_of_slot-requires
 lines_of_slot-requires c =
-    ap (λ (l : List EventComponent). length l) c.deref.ensures.value ∙ one_for_each c.in_ok-object.object _ c.in_ok-events.events.items c.in_ok-events.ensures.says
+    ap (λ (l : List EventComponent). length l) c.deref.ensures.value ∙ one_for_each c.in_ok-object.object.calendar _ c.in_ok-events.events.items c.in_ok-events.ensures.says
 
 pub returns-clause-finds : goal.returns-clause-finds
 returns-clause-finds c =
-    let object = c.in_ok-object.object in
+    let object = c.in_ok-object.object.calendar in
     let is = subst (λ (ls : List (List ℕ)). IsObjectOf true object ls) c.in_ok-text.ensures.lines c.in_ok-object.ensures.spelled in
     let slot = slot_of c.args.slot in
     let found = c.in_ok-lines_of_slot.field-0 in

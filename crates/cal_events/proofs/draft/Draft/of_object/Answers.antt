@@ -11,7 +11,7 @@ use Rattle.profile.specs.faults.Faults.{is_calendar_fault}
 use Rattle.profile.specs.checker.Calendars.{CalendarFault}
 use Rattle.profile.specs.events.EventComponents.{EventComponentFault}
 use Rattle.profile.specs.events.Placed.{SaysPlaced}
-use Rattle.profile.specs.series.RoomZones.{NamesRoomZone}
+use Rattle.profile.specs.series.RoomZones.{NamesRoomZone, RoomZoneFault}
 use Rattle.ical_tree.proofs.TreeOfLemmas.{tree_of-own}
 use Rattle.cal_zones.specs.RoomZones.{words_of, room_of}
 use Rattle.cal_events.specs.Component.{component_of, vevents_of}
@@ -73,7 +73,7 @@ returns-clause-says c =
     let zone = room_of c.in_ok-zone.zone in
     let all = take_all c.loop-component.component-index (component_children c.args.object.now) (subst (λ (l : List Component). length l ≤ c.loop-component.component-index) c.children-component-items.ensures c.loop-component-test.false) in
     let says = subst (λ vs. AllZip (SaysPlaced zone object None) vs h.0) (ap events_in all ∙ sym (vevents_tree c.args.object.now)) h.1 in
-    let names = subst (λ (own : List (List ℕ)). NamesRoomZone own zone) (sym (tree_of-own c.args.object.now)) c.in_ok-zone.ensures.names in
+    let names = subst (λ (own : List (List ℕ)). NamesRoomZone own zone) (c.requires ∙ sym (tree_of-own c.args.object.now)) c.in_ok-zone.ensures.names in
     record { events = h.0; says = record { zone = zone; names = names; each = says }; is = h.2 }
 
 pub returns-in_err-event-clause-refuses : goal.returns-in_err-event-clause-refuses
@@ -81,11 +81,13 @@ returns-in_err-event-clause-refuses c = err_exit _ (RefusesOnly is_calendar_faul
 
 pub returns-in_err-zone-clause-fault : goal.returns-in_err-zone-clause-fault
 returns-in_err-zone-clause-fault c =
-    err_exit _ (RefusesBy (CalendarFault (tree_of c.args.object.now))) _ c.from_residual.ensures.1 (zone_refuses c.args.object.now _ c.in_err-zone.ensures.fault)
+    let fault = c.in_err-zone.field-0.0 in
+    err_exit _ (RefusesBy (CalendarFault (tree_of c.args.object.now))) _ c.from_residual.ensures.1
+    (zone_refuses c.args.object.now fault (subst (λ (own : List (List ℕ)). RefusesBy (λ n. (n ≡ 44) × RoomZoneFault own) fault) c.requires c.in_err-zone.ensures.fault))
 
 pub returns-in_err-zone-clause-refuses : goal.returns-in_err-zone-clause-refuses
 returns-in_err-zone-clause-refuses c =
-    err_exit _ (RefusesOnly is_calendar_fault) _ c.from_residual.ensures.1 (zone_number c.args.object.now _ c.in_err-zone.ensures.fault)
+    err_exit _ (RefusesOnly is_calendar_fault) _ c.from_residual.ensures.1 (zone_number c.args.own.now c.in_err-zone.field-0.0 c.in_err-zone.ensures.fault)
 
 pub add-requires : goal.add-requires
 add-requires c = record {

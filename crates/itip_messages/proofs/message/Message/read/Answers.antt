@@ -16,18 +16,19 @@ returns-in_err-object-clause-fault c =
 
 pub of_object-requires : goal.of_object-requires
 of_object-requires c =
-    let object = subst (λ (ls : List (List ℕ)). IsObjectOf true c.in_ok-object.object ls) c.in_ok-text.ensures.lines c.in_ok-object.ensures.spelled in
+    let object = subst (λ (ls : List (List ℕ)). IsObjectOf true c.in_ok-object.object.calendar ls) c.in_ok-text.ensures.lines c.in_ok-object.ensures.spelled in
     record {
+      own = c.in_ok-object.ensures.own;
       spelled = λ said says.
-          (c.args.bytes.now, record { lines = c.in_ok-text.ensures.reads; tree = tree_of c.in_ok-object.object; object = object_tree true c.in_ok-object.object (logical_lines c.args.bytes.now) object; says = says });
+          (c.args.bytes.now, record { lines = c.in_ok-text.ensures.reads; tree = tree_of c.in_ok-object.object.calendar; object = object_tree true c.in_ok-object.object.calendar (logical_lines c.args.bytes.now) object; says = says });
     }
 
 pub returns-clause-spells : goal.returns-clause-spells
 returns-clause-spells c =
-    let object = subst (λ (ls : List (List ℕ)). IsObjectOf true c.in_ok-object.object ls) c.in_ok-text.ensures.lines c.in_ok-object.ensures.spelled in
-    message_spelled _ c.args.bytes.now c.in_ok-object.object c.in_ok-text.ensures.reads object c.of_object.ensures.says
+    let object = subst (λ (ls : List (List ℕ)). IsObjectOf true c.in_ok-object.object.calendar ls) c.in_ok-text.ensures.lines c.in_ok-object.ensures.spelled in
+    message_spelled _ c.args.bytes.now c.in_ok-object.object.calendar c.in_ok-text.ensures.reads object c.of_object.ensures.says
 
 pub returns-clause-fault : goal.returns-clause-fault
 returns-clause-fault c =
-    let object = subst (λ (ls : List (List ℕ)). IsObjectOf true c.in_ok-object.object ls) c.in_ok-text.ensures.lines c.in_ok-object.ensures.spelled in
-    faults_there _ c.args.bytes.now c.in_ok-object.object object c.of_object.ensures.fault
+    let object = subst (λ (ls : List (List ℕ)). IsObjectOf true c.in_ok-object.object.calendar ls) c.in_ok-text.ensures.lines c.in_ok-object.ensures.spelled in
+    faults_there _ c.args.bytes.now c.in_ok-object.object.calendar object c.of_object.ensures.fault

@@ -3,7 +3,7 @@ use Rattle.ical_lines.specs.Text.{lines_left}
 use Rattle.ical_tree.specs.Reading.{open_view}
 use Rattle.ical_tree.specs.Runs.{lines_after_run}
 use Rattle.ical_tree.proofs.RefusalLemmas.{State}
-use Rattle.ical_tree.proofs.read.read_object.Given as goal
+use Rattle.ical_tree.proofs.read.Object.read.Given as goal
 
 abbrev pub invariant-loop-line : goal.invariant-loop-line
 invariant-loop-line l = record {

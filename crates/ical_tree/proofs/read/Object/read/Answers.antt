@@ -3,7 +3,7 @@ use Rattle.std.proofs.lemmas.Result.{err_from_is_err_and}
 use Rattle.ical_lines.specs.Limits.{is_bounded}
 use Rattle.ical_tree.specs.Runs.{run_lines}
 use Rattle.ical_tree.proofs.RefusalLemmas.{state_first, state_next, state_spelled, take_refuses, finish_refuses}
-use Rattle.ical_tree.proofs.read.read_object.Goals as goal
+use Rattle.ical_tree.proofs.read.Object.read.Goals as goal
 
 pub loop-line-init : goal.loop-line-init
 loop-line-init c = record {
@@ -39,6 +39,9 @@ returns-clause-spelled c =
       events = c.in_ok-check_calendar.ensures.events;
     }
 
-pub check_calendar-requires : goal.check_calendar-requires
-check_calendar-requires c =
+pub check_calendar-requires-clause-calendar : goal.check_calendar-requires-clause-calendar
+check_calendar-requires-clause-calendar c =
     (state_spelled _ _ _ _ c.in_ok-calendar.calendar c.loop-line.invariant.state c.in_default.ensures.next.0 c.in_ok-calendar.ensures.spelled).1
+
+pub check_calendar-requires-clause-own : goal.check_calendar-requires-clause-own
+check_calendar-requires-clause-own c = c.in_ok-own.ensures
