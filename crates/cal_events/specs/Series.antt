@@ -12,7 +12,7 @@ use Rattle.cal_events.specs.declared.series.Series.{Series}
 
 -- its master by its rule alone, as a meeting
 abbrev pub series_said : Series → SaidEvent
-series_said s = said_meeting s.event
+series_said s = said_meeting s.event.value
 
 -- this is that master
 abbrev pub IsMasterOf : SaidEvent → Said → Type 0

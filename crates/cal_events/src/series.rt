@@ -32,17 +32,20 @@ use cal_rules::{Rule, common_multiple, shifts_are_multiples};
 use cal_zones::Zone;
 use std::alloc::{AllocError, Global};
 use std::cmp::Ordering;
+use std::rc::Rc;
 
 /// A series: a master with RRULE, by its rule alone. In a calendar it is one that the room has accepted, and what overrides of its meeting
 /// replace isn't one of its starts.
+///
+/// Its copies share what it was made of, so one costs no more than a count.
 #[derive(Drop)]
 pub struct Series {
-    pub(crate) event: Event,
+    event: Rc<Event>,
     /// The least instant after all that it doesn't do again.
     from: i64,
-    ghost ruled: { IsRuled event },
-    ghost said: { ∥ IsSaidSeries (said_meeting event) ∥₁ },
-    ghost past: { IsKeptPast (said_meeting event) from },
+    ghost ruled: { IsRuled event.value },
+    ghost said: { ∥ IsSaidSeries (said_meeting event.value) ∥₁ },
+    ghost past: { IsKeptPast (said_meeting event.value) from },
 }
 
 impl Series {
@@ -99,7 +102,7 @@ impl Series {
     {
         let recurrence = Recurrence::of(alloc, times, rule, &[], exceptions)?;
         let from = regular_from(&recurrence);
-        let event = Event::recurring(alloc, name, recurrence);
+        let event = Rc::new(alloc, Event::recurring(alloc, name, recurrence))?;
         Ok(Series { event, from })
     }
 
@@ -113,18 +116,25 @@ impl Series {
         Series::by_rule(alloc, name, recurrence.times, rule, exceptions)
     }
 
-    /// A copy of the series, with the same starts and exceptions. It fails only when out of memory.
-    pub fn copy(&self, alloc: Global) -> Result<Series, AllocError>
+    /// The same series once more: what it was made of is shared. It fails only where more share it than a count tells.
+    pub fn copy(&self) -> Result<Series, AllocError>
         ensures { IfOk result (λ copy. series_said copy ≡ series_said self.now) }
     {
-        let exceptions = copied(alloc, self.recurrence().exceptions.sorted())?;
-        self.except(alloc, exceptions)
+        let event = self.event.clone()?;
+        Ok(Series {
+            event,
+            from: self.from,
+        })
     }
 
-    /// The series without the instances at these starts, as if EXDATE named them. In time n log n. It fails only when out of memory.
+    /// The series without the instances at these starts, as if EXDATE named them. In time n log n; where there is no start it is the same series
+    /// once more. It fails only when out of memory.
     pub fn without(&self, alloc: Global, starts: &[i64]) -> Result<Series, AllocError>
         ensures { IfOk result (λ left. IsSeriesWithout (series_said self.now) starts.now (series_said left)) }
     {
+        if starts.is_empty() {
+            return self.copy();
+        }
         let mut exceptions = copied(alloc, self.recurrence().exceptions.sorted())?;
         exceptions.extend_from_slice(starts)?;
         self.except(alloc, exceptions)
@@ -220,8 +230,8 @@ impl Series {
     }
 
     fn recurrence(&self) -> &Recurrence
-        ensures is { self.now.event.recurrence ≡ Some result.now }
-        ensures master { IsMasterOf (series_said self.now) (master_of self.now.event.name result.now) }
+        ensures is { self.now.event.value.recurrence ≡ Some result.now }
+        ensures master { IsMasterOf (series_said self.now) (master_of self.now.event.value.name result.now) }
         ensures ruled { is_some result.now.rule ≡ true }
     {
         match &self.event.recurrence {

@@ -57,10 +57,10 @@ no_less times n (inr (some, (least, greatest, b, is))) = omega (arith, ints, b.o
 module _ (series : Series) (n : ℤ) (width : (master : Said) → IsMasterOf (series_said series) master → IsWidth master.times n) where
   its_width : (master : Said) × (((b : SaidInstance) → IsInstance (series_said series) b → EndsAt master.times b.start b.end) × IsWidth master.times n)
   its_width =
-      let m = own_master series.event series.ruled in
-      let master = master_of series.event.name m.0 in (
+      let m = own_master series.event.value series.ruled in
+      let master = master_of series.event.value.name m.0 in (
         master,
-        ((λ b h. (at_start master b (subst (λ (w : SaidEvent). IsInstance w b) m.2 h)).ends), width master (ap (option_map (master_of series.event.name)) m.1)),
+        ((λ b h. (at_start master b (subst (λ (w : SaidEvent). IsInstance w b) m.2 h)).ends), width master (ap (option_map (master_of series.event.value.name)) m.1)),
       )
 
   pub series_lasts : (b : SaidInstance) → IsInstance (series_said series) b → b.end ≤ℤ (b.start +ℤ n)

@@ -197,7 +197,7 @@ impl MessageComponent {
         }
         let mut singles = Vec::new(alloc);
         singles.extend_from_slice(&self.singles)?;
-        let series = copied(alloc, &self.series)?;
+        let series = copied(&self.series)?;
         Ok((singles, series))
     }
 
@@ -216,12 +216,12 @@ impl MessageComponent {
     }
 }
 
-/// A copy of a series, if there is one. It fails only when out of memory.
-fn copied(alloc: Global, series: &Option<Series>) -> Result<Option<Series>, AllocError>
+/// A series once more, if there is one: what it was made of is shared.
+fn copied(series: &Option<Series>) -> Result<Option<Series>, AllocError>
     ensures { IfOk result (λ copy. (event : events.EventComponent) (own : List Single) → AreInstancesOf event own series.now → AreInstancesOf event own copy) }
 {
     match series {
-        Some(series) => Ok(Some(series.copy(alloc)?)),
+        Some(series) => Ok(Some(series.copy()?)),
         None => Ok(None),
     }
 }

@@ -15,7 +15,7 @@ ghost use Rattle.room_books.specs.Taking.{kept_then, IsAccepted, IsDecided, IsDe
 
 use crate::answer::LimitKind;
 use crate::claim::Claim;
-use crate::confirming::{count_series, kept_series, series_of, singles_of};
+use crate::confirming::{count_series, kept_series, series_of};
 use crate::gone::Gone;
 use crate::kept::Meeting;
 use crate::meeting::{MeetingKey, Outcome, PartAnswer};
@@ -61,9 +61,14 @@ pub(crate) struct Deciding<'a> {
 }
 
 impl<'a> Deciding<'a> {
-    /// What is decided of candidates: the limit of series is looked at first, then that of singles, then whether any two instances share an
-    /// instant. It fails only when out of memory.
-    pub(crate) fn decide(&self, candidates: &[PartAnswer]) -> Result<Outcome, AllocError>
+    /// What is decided of candidates, which confirm these singles: the limit of series is looked at first, then that of singles, then whether any
+    /// two instances share an instant. It fails only when out of memory.
+    pub(crate) fn decide(
+        &self,
+        candidates: &[PartAnswer],
+        singles: &[Single],
+    ) -> Result<Outcome, AllocError>
+        requires singles { singles.now ≡ all_singles candidates.now }
         requires parted { IsPartedInto (singles_by (lookup (same_key self.now.key.now) self.now.room.now.meetings.entries)) self.now.gone.now (all_singles (kept_then (lookup (same_key self.now.key.now) self.now.room.now.meetings.entries) self.now.lost.now self.now.left.now)) }
         requires less { AreFewer (series_by (lookup (same_key self.now.key.now) self.now.room.now.meetings.entries)) (all_series (kept_then (lookup (same_key self.now.key.now) self.now.room.now.meetings.entries) self.now.lost.now self.now.left.now)) }
         ensures { IfOk result (IsWholeDecision (beside self.now.key.now self.now.room.now.meetings.entries) self.now.key.now (kept_then (lookup (same_key self.now.key.now) self.now.room.now.meetings.entries) self.now.lost.now self.now.left.now) candidates.now) }
@@ -78,12 +83,11 @@ impl<'a> Deciding<'a> {
         if kept.len() + wanted.len() > MOST_SERIES - others {
             return Ok(Outcome::Limit(LimitKind::Series));
         }
-        let singles = singles_of(alloc, candidates)?;
-        let outcome = self.decide_singles(&singles)?;
+        let outcome = self.decide_singles(singles)?;
         if !outcome.is_accept() {
             return Ok(outcome);
         }
-        match self.clash_in_series(&kept, &singles, &wanted)? {
+        match self.clash_in_series(&kept, singles, &wanted)? {
             Some(clash) => Ok(Outcome::Declined(clash)),
             None => Ok(outcome),
         }

@@ -1,7 +1,7 @@
 //! A room takes messages one after another. A message is taken whole or not at all: everything is computed
 //! beside the room, and put into it by the last step.
 
-ghost use Rattle.std.specs.Prelude.{◌≡◌, ◌≢◌, ◌⊎◌, ◌<◌, ◌≤◌, ◌+◌, ◌++◌, ℕ, List, [], Contains, length, map, IfOk, OnOk, OnErr, IsTrue, true, option_copied};
+ghost use Rattle.std.specs.Prelude.{◌≡◌, ◌≢◌, ◌⊎◌, ◌<◌, ◌≤◌, ◌+◌, ◌++◌, ℕ, List, [], Contains, length, map, IfOk, OnOk, OnErr, IsTrue, true, option_copied, if◌then◌else◌};
 ghost use Rattle.std.specs.Vec.{vec_len, vec_capacity};
 ghost use Rattle.std.specs.Map.{lookup};
 ghost use Rattle.indexmap.specs.IndexMap.{insert_index, IsUnchanged};
@@ -18,10 +18,10 @@ ghost use Rattle.profile.specs.streams.Streams.{AreClaims, IsDelivered, IsReache
 ghost use Rattle.profile.specs.Headline.{AcceptedWhereClear, DeclineNamesClash, KeptTextsPass};
 ghost use Rattle.profile.specs.checker.Calendars.{CertificateHolds};
 ghost use Rattle.profile.specs.rooms.Rooms as rooms;
-ghost use Rattle.profile.specs.rooms.Rooms.{Book, empty_book};
+ghost use Rattle.profile.specs.rooms.Rooms.{Book, empty_book, is_accept};
 ghost use Rattle.profile.specs.rooms.Kept.{IsKeptCalendar, IsKeptCertificate, Refreshes, Replies};
 ghost use Rattle.room_books.specs.Gone.{IsPartedInto, Shifts};
-ghost use Rattle.room_books.specs.Meeting.{same_key, all_confirmed, all_singles, confirmed_at, singles_by, others, AreAllApart, all_recurring, all_series, beside, in_room, series_at, series_by, AreFewer, AreRecurring, IsClearIn, MayJoin};
+ghost use Rattle.room_books.specs.Meeting.{same_key, all_confirmed, all_singles, outcome_of, confirmed_at, singles_by, others, AreAllApart, all_recurring, all_series, beside, in_room, series_at, series_by, AreFewer, AreRecurring, IsClearIn, MayJoin};
 ghost use Rattle.cal_events.specs.declared.instance.Single.{Single};
 ghost use Rattle.room_books.specs.Texts.{KeepsReached, SpellsConfirmed};
 ghost use Rattle.room_books.specs.Timeline.{IsTimelineOf};
@@ -393,6 +393,7 @@ impl Room {
             });
         }
         let candidates = candidates(self.alloc, held, asked, now)?;
+        let singles = singles_of(self.alloc, &candidates)?;
         let deciding = Deciding {
             room: self,
             key,
@@ -400,9 +401,9 @@ impl Room {
             left: &change.left,
             gone: &change.gone,
         };
-        let outcome = deciding.decide(&candidates)?;
+        let outcome = deciding.decide(&candidates, &singles)?;
         let mut new = decided(self.alloc, candidates, &outcome)?;
-        let added = singles_of(self.alloc, &new)?;
+        let added = added_by(self.alloc, &outcome, singles);
         let Change { lost, left, gone } = change;
         let mut coming = left;
         coming.append(&mut new)?;
@@ -447,6 +448,16 @@ impl Room {
         mark(&mut self.recurring, place, after > 0);
         Ok(())
     }
+}
+
+/// Those of the instances of candidates that are confirmed by what was decided: all or none.
+fn added_by(alloc: Global, outcome: &Outcome, singles: Vec<Single>) -> Vec<Single>
+    ensures { result.items ≡ (if is_accept (outcome_of outcome.now) then singles.items else []) }
+{
+    if outcome.is_accept() {
+        return singles;
+    }
+    Vec::new(alloc)
 }
 
 /// How many series the meeting in a place has confirmed.

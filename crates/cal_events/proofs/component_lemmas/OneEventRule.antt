@@ -15,7 +15,7 @@ use Rattle.profile.specs.events.Properties.{Form, Fixed, Floating, WholeDay, Bot
 use Rattle.profile.specs.events.ZonedTimes.{SaysZonedTime, clock_of, is_in_zone, IsInDates, EventTimes, SaysEventTimes, SaysTimes}
 use Rattle.profile.specs.events.EventRules.{as_end, IsLastAllowed, AllowsNone, IsOnDay, GivesRule, IsRuleText, GivesBeside, SaysEventRule, IsOutsideRule, EventRuleFault, bad_rule, starts_outside}
 use Rattle.ical_tree.proofs.OneLine.{IsFunctional, only_line}
-use Rattle.cal_events.proofs.shared_lemmas.OneTimes.{Lines, OneZonedTime, OneDuration, at_most_one, clock_one, one_times_by, clock_by, none_there}
+use Rattle.cal_events.proofs.shared_lemmas.OneTimes.{Lines, OneZonedTime, OneDuration, clock_one, one_times_by, clock_by, none_there}
 use Rattle.cal_events.proofs.component_lemmas.Said.{same_said, said_by}
 
 abbrev pub OneRule : Type 0

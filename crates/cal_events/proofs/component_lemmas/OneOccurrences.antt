@@ -11,7 +11,7 @@ use Rattle.profile.specs.events.EventComponents.{instants_of, AreOfWritten}
 use Rattle.ical_tree.proofs.OneLine.{IsFunctional}
 use Rattle.cal_events.proofs.component_lemmas.Said.{same_said, said_by}
 use Rattle.cal_events.proofs.shared_lemmas.Zips.{zip_one, zip_at, zip_length}
-use Rattle.cal_events.proofs.shared_lemmas.OneTimes.{Lines, OneZonedTime, NoTimeFault, same_line, at_most_one, text_instant, one_instant, dated, text_not_out, not_out}
+use Rattle.cal_events.proofs.shared_lemmas.OneTimes.{Lines, OneZonedTime, NoTimeFault, same_line, text_instant, one_instant, dated, text_not_out, not_out}
 
 -- ---- STATUS
 

@@ -1,6 +1,6 @@
 -- Keys of instances in order: equal ones are neighbours, and one is looked for by binary search.
 -- Cited by Draft::into_calendar, is_shown, shown.
-use Rattle.std.proofs.Common.{◌≡◌, ◌≢◌, ℕ, [], ◌∷◌, ◌+◌, ◌<◌, ◌≤◌, ◌-◌, true, false, List, map, length, get_or, subst, sym, refl, ap, ◌∙◌, inl, inr, ◌⊎◌, arith, Ordering, ℤ}
+use Rattle.std.proofs.Common.{◌≡◌, ◌≢◌, ℕ, [], ◌∷◌, ◌+◌, ◌<◌, true, false, List, map, length, get_or, subst, sym, refl, ap, ◌∙◌, inl, inr, ◌⊎◌, arith, Ordering, ℤ}
 use Rattle.std.specs.Prelude.{AllPairs, Result, Ok, Err, Bool, not, ◌&&◌}
 use Rattle.std.specs.declared.cmp.Ordering.TheVariants.{Less, Equal, Greater}
 use Rattle.std.specs.Ordering.{is_lt, is_eq, int_eq, nat_cmp, int_cmp, ordering_then, ordering_reverse}
@@ -18,7 +18,7 @@ use Rattle.profile.specs.checker.Instances.{Key, key_cmp}
 use Rattle.std.specs.Str.{bytes_eq}
 use Rattle.std.proofs.lemmas.Slice.Eq.{bytes_eq-Decides}
 use Rattle.std.proofs.lemmas.Bool.Decides.{Decides-int_eq}
-use Rattle.std.proofs.lemmas.List.{get_or-map, get_or_default, length-map}
+use Rattle.std.proofs.lemmas.List.{get_or-map, length-map}
 use Rattle.cal_events.specs.Calendar.{key_of}
 use Rattle.cal_events.specs.Neighbours.{HaveEqual, HaveNoEqual}
 use Rattle.cal_events.specs.declared.instance.InstanceKey.{InstanceKey}

@@ -1,28 +1,26 @@
 -- An event as it is kept has the instances of the meeting that it was made of.
 -- Cited by Event::of, Event::of_object, Event::read, first_name.
-use Rattle.std.proofs.Common.{◌≡◌, ◌∙◌, ℕ, zero, suc, List, [], ◌∷◌, ◌++◌, filter, map, length, get_or, sym, ap, subst, refl, inl, inr, ◌⊎◌, arith, ℤ}
-use Rattle.std.specs.Prelude.{Option, Some, None, All, Contains, ◌↔◌, option_map, unwrap_or, Result, Ok, Err, IfOk}
+use Rattle.std.proofs.Common.{◌≡◌, ◌∙◌, suc, List, [], ◌∷◌, map, get_or, sym, ap, subst, refl, inl, inr, arith, ℤ}
+use Rattle.std.specs.Prelude.{Option, Some, None, All, Contains, unwrap_or, Result, Ok, Err, IfOk}
 use Rattle.std.specs.List.{slice_get}
 use Rattle.std.specs.Option.{option_to_list}
 use Rattle.std.proofs.lemmas.Option.{same_Some}
 use Rattle.std.proofs.lemmas.List.{get_or_default}
-use Rattle.std.proofs.lemmas.List.Elements.{Contains-append_cases, Contains-append_right}
+use Rattle.std.proofs.lemmas.List.Elements.{Contains-append_cases}
 use Rattle.ical_values.specs.Octets.{text_octets}
 use Rattle.profile.specs.text.Trees.{Tree}
 use Rattle.profile.specs.series.Zones.{Zone}
 use Rattle.profile.specs.series.Rules.{Rule}
-use Rattle.profile.specs.checker.Instances.{Key, Instance}
 use Rattle.profile.specs.events.EventComponents.{EventComponent as Said, meeting_said}
 use Rattle.profile.specs.events.Events.{Event as Whole, AreOfOne, SaysEvent, components_of, is_master, is_override}
 use Rattle.profile.specs.events.Starts.{EndsAt, IsGiven, IsInstance, IsStart, key_at}
 use Rattle.profile.specs.events.ZonedTimes.{EventTimes}
 use Rattle.cal_events.specs.Component.{component_of, times_of}
-use Rattle.cal_events.specs.Event.{AreAlike, TakesPlaceAs, said_meeting}
+use Rattle.cal_events.specs.Event.{AreAlike}
 use Rattle.cal_events.specs.MeetingComponents.{instants_said}
 use Rattle.cal_events.specs.Overlapping.{HaveOneEnd, AreDated}
 use Rattle.cal_events.specs.Recurrence.{IsRecurrenceWithout, AreNamed, master_of, name_of, organiser_of}
 use Rattle.cal_events.specs.declared.component.EventComponent.{EventComponent}
-use Rattle.cal_events.specs.declared.event.Event as declared
 use Rattle.cal_events.specs.declared.recurrence.EventName.{EventName}
 use Rattle.cal_events.specs.declared.recurrence.Recurrence.{Recurrence}
 use Rattle.cal_events.proofs.shared_lemmas.HiddenLemmas.{replaced_at}

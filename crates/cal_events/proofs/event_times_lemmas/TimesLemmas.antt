@@ -1,6 +1,6 @@
 -- What DTSTART, DTEND and DURATION say, put together.
 -- Cited by SaidTimes::judge, judge_from, judge_alone, read_extent.
-use Rattle.std.proofs.Common.{◌≡◌, ◌∙◌, ℕ, ◌<◌, ◌≤◌, ◌^◌, Bool, true, false, not, List, codes, subst, sym, ap, refl, inl, inr, arith, ℤ, pos, ◌+ℤ◌, ◌*ℤ◌, ◌<ℤ◌}
+use Rattle.std.proofs.Common.{◌≡◌, ◌∙◌, ℕ, ◌≤◌, Bool, true, false, not, List, codes, subst, sym, ap, refl, inl, inr, arith, ℤ, pos, ◌+ℤ◌, ◌*ℤ◌, ◌<ℤ◌}
 use Rattle.std.specs.Prelude.{Option, Some, None, Result, Ok, Err, IfOk, IfErr, ◌⊎◌, ◌≢◌, ◌↔◌, IsTrue}
 use Rattle.std.proofs.lemmas.Bool.{true≢false}
 use denote.Enum.Bare.{sameb, same_true, differs_true, differs_false}

@@ -1,6 +1,6 @@
 -- What `expand` prints, worked by the definitions alone: nine seconds from 09:00Z on, on the first and the second of January 2025, of which
 -- the first is moved to the time of the second.
-use Rattle.std.proofs.Common.{◌≡◌, ◌∙◌, ◌⊎◌, ℕ, zero, suc, false, List, [], ◌∷◌, ◌++◌, codes, lit<, sym, ap, subst, refl, inl, inr, arith, ℤ, pos}
+use Rattle.std.proofs.Common.{◌≡◌, ◌∙◌, ℕ, zero, suc, false, List, [], ◌∷◌, ◌++◌, codes, lit<, sym, ap, subst, refl, inl, inr, arith, ℤ, pos}
 use Rattle.std.specs.Prelude.{Some, None, Contains}
 use Rattle.std.proofs.lemmas.Int.{ints}
 use Rattle.std.proofs.lemmas.Fmt.{decimal_digit}

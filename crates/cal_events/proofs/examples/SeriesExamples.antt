@@ -1,6 +1,6 @@
 -- What of a master its series keeps, worked by the definitions alone.
 use Rattle.std.proofs.Common.{◌≡◌, ◌⊎◌, ◌<◌, ℕ, zero, suc, List, [], ◌∷◌, get_or, refl, inl, inr, arith, pos, ℤ, ◌<ℤ◌}
-use Rattle.std.specs.Prelude.{Contains, Some, None}
+use Rattle.std.specs.Prelude.{Contains, Some}
 use Rattle.std.proofs.lemmas.Int.{ints}
 use Rattle.profile.specs.events.Confirmed.{AreAll, IsByItsRule, by_its_rule}
 use Rattle.profile.specs.events.EventComponents.{EventComponent}

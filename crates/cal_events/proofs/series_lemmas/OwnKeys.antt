@@ -1,25 +1,23 @@
 -- The keys of one meeting among keys in order: two binary searches find them, and their slots ascend.
 -- Cited by own_keys, replaced.
-use Rattle.std.proofs.Common.{◌≡◌, ◌≢◌, ◌∙◌, ℕ, ◌+◌, ◌<◌, ◌≤◌, Bool, true, false, List, [], ◌∷◌, ◌++◌, length, get_or, take, drop, map, sym, ap, refl, subst, arith, zero, suc, ◌<ℤ◌, Ordering, get_or-drop, take-append-drop, length-drop, append-nil}
-use Rattle.std.specs.Prelude.{AllPairs, Contains, filter}
+use Rattle.std.proofs.Common.{◌≡◌, ◌∙◌, ℕ, ◌+◌, ◌<◌, ◌≤◌, Bool, true, false, List, [], ◌∷◌, ◌++◌, length, get_or, take, drop, map, sym, ap, refl, subst, arith, zero, suc, Ordering, get_or-drop, take-append-drop, length-drop, append-nil}
+use Rattle.std.specs.Prelude.{Contains, filter}
 use Rattle.std.specs.declared.cmp.Ordering.TheVariants.{Less, Equal, Greater}
 use Rattle.std.specs.Ordering.{is_lt, is_eq, ordering_then, ordering_index, ordering_reverse, nat_cmp, int_cmp}
 use Rattle.std.specs.Cmp.{IsTotalOrder}
 use Rattle.std.specs.Cmp.Lexicographic.{slice_cmp}
 use Rattle.std.specs.List.Sorted.{IsNonDecreasingBy, IsPartitionedBy, IsPartitionPoint}
 use Rattle.std.proofs.lemmas.Bool.{true≢false}
-use Rattle.std.proofs.lemmas.Cmp.{on_total, then_total, nat_list_cmp_total, int_ranked}
-use Rattle.std.proofs.lemmas.List.Elements.{filter-append, filter_passes}
-use Rattle.std.proofs.lemmas.List.Kept.{AllPairs-filter}
-use Rattle.std.proofs.lemmas.List.Sorted.{searchable_from_sorted, sorted_far, ranks_by}
+use Rattle.std.proofs.lemmas.Cmp.{on_total, then_total, nat_list_cmp_total}
+use Rattle.std.proofs.lemmas.List.Elements.{filter-append}
+use Rattle.std.proofs.lemmas.List.Sorted.{searchable_from_sorted}
 use Rattle.profile.specs.checker.Instances.{Key, key_cmp}
 use Rattle.cal_events.specs.Calendar.{MeetingName, key_of, key_in}
 use Rattle.cal_events.specs.Draft.{AreInOrder}
 use Rattle.cal_events.specs.Ruled.{meeting_name_cmp, cmp_to, is_before, is_key_of, AreSlotsOf}
 use Rattle.cal_events.specs.declared.instance.InstanceKey.{InstanceKey}
 use Rattle.std.proofs.lemmas.Map.Lookups.{exact_pairs, exact_bytes}
-use Rattle.cal_events.proofs.shared_lemmas.InOneOrder.{in_mapped, of_mapped, in_filtered, of_filtered, mapped_pairs, pairs_mapped}
-use Rattle.cal_events.proofs.draft_lemmas.KeyLemmas.{key_total, tie}
+use Rattle.cal_events.proofs.shared_lemmas.InOneOrder.{in_mapped, of_mapped, in_filtered, of_filtered}
 
 -- ---- orders
 

@@ -1,10 +1,9 @@
 -- The clocks of an event's zone: what they show means one instant, and later ones later instants.
 -- Cited by add_singles of draft, Event::of_object of event, Series::of of series.
-use Rattle.std.proofs.Common.{◌≡◌, ◌∙◌, ℕ, ◌≤◌, List, [], ◌∷◌, sym, inl, inr, ◌⊎◌, arith, ℤ, pos, negsuc, ◌+ℤ◌, ◌-ℤ◌, ◌<ℤ◌, ◌≤ℤ◌, unsigned_abs}
+use Rattle.std.proofs.Common.{◌≡◌, ◌∙◌, ℕ, ◌≤◌, List, sym, inl, inr, ◌⊎◌, arith, ℤ, pos, negsuc, ◌+ℤ◌, ◌-ℤ◌, ◌<ℤ◌, ◌≤ℤ◌, unsigned_abs}
 use Rattle.std.proofs.lemmas.Int.{ints}
 use Rattle.profile.specs.series.Zones.{Zone, Constant, Single, Pair, Observance, IsZoneOnset, InForce, Since, Until, Means}
 use Rattle.profile.specs.series.ZoneTexts.{AreMatched}
-use Rattle.profile.specs.events.EventComponents.{EventComponent as SaidComponent}
 use Rattle.cal_events.specs.Clocks.{IsAscending}
 
 abbrev Lines : Type 0

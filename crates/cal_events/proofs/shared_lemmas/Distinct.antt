@@ -1,6 +1,6 @@
 -- What holds of each two places of a list holds of each two places of the list in another order.
 -- Behind Calendar::of_object of calendar, Calendar::read of calendar, Draft::add of draft, Draft::into_calendar of draft, add_singles of draft, has_equal_neighbours of draft and 7 more.
-use Rattle.std.proofs.Common.{◌≡◌, ◌≢◌, ℕ, zero, suc, ◌<◌, ◌≤◌, ◌==◌, cond, List, [], ◌∷◌, length, get_or, subst, sym, refl, ap, ◌∙◌, inl, inr, arith}
+use Rattle.std.proofs.Common.{◌≡◌, ◌≢◌, ℕ, zero, suc, ◌<◌, ◌≤◌, ◌==◌, cond, List, [], ◌∷◌, length, get_or, subst, sym, refl, ap, inl, inr, arith}
 use Rattle.std.specs.Prelude.{AllPairs}
 use Rattle.std.specs.List.{swap}
 use Rattle.std.specs.List.Sorted.{IsPermutation}

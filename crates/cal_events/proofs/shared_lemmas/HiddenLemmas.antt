@@ -14,7 +14,7 @@ use Rattle.std.proofs.lemmas.List.Folds.{Any-from_list_any, list_any-from_Any}
 use Rattle.profile.specs.checker.Instances.{horizon}
 use Rattle.profile.specs.events.EventComponents.{EventComponent as SaidComponent}
 use Rattle.profile.specs.events.Starts.{IsReplaced}
-use Rattle.cal_events.specs.MeetingComponents.{IsInEventDates, instants_said}
+use Rattle.cal_events.specs.MeetingComponents.{instants_said}
 use Rattle.cal_events.specs.declared.instances.Bound.{Bound}
 use Rattle.cal_events.specs.Instants.{IsFirstFrom, HasInstant, IsAdmitted, AreStarts, AreStartsOf, AreReplacedIn}
 use Rattle.cal_events.specs.Recurrence.{recurring}

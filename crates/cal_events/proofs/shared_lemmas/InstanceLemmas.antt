@@ -1,20 +1,19 @@
 -- The instances of an event: how the first that is left is found.
 -- Cited by InstancesIterator::next of instances, first_day of instances, first_on_rule of instances, first_place of instances, first_start of instances, instance_at of instances and 1 more.
-use Rattle.std.proofs.Common.{◌≡◌, ◌∙◌, ℕ, zero, suc, ◌+◌, ◌<◌, ◌≤◌, Bool, true, false, List, [], ◌∷◌, ◌++◌, length, map, get_or, take, take_all, sym, ap, subst, refl, inl, inr, ◌⊎◌, arith, ℤ, ◌+ℤ◌, ◌<ℤ◌, ◌≤ℤ◌}
-use Rattle.std.specs.Prelude.{Option, Some, None, Contains, int_lt, IsTrue, ◌↔◌, not, option_map}
-use Rattle.std.proofs.lemmas.Bool.{true≢false, false≢true, cases_order}
+use Rattle.std.proofs.Common.{◌≡◌, ◌∙◌, ℕ, zero, suc, ◌+◌, ◌<◌, ◌≤◌, Bool, true, false, List, [], ◌∷◌, map, sym, ap, subst, refl, inl, inr, ◌⊎◌, arith, ℤ, ◌+ℤ◌, ◌<ℤ◌, ◌≤ℤ◌}
+use Rattle.std.specs.Prelude.{Option, Some, None, Contains, int_lt, ◌↔◌, not, option_map}
+use Rattle.std.proofs.lemmas.Bool.{true≢false, cases_order}
 use Rattle.std.proofs.lemmas.Option.{same_Some}
 use Rattle.std.proofs.lemmas.Int.{ints}
 use Rattle.std.proofs.lemmas.List.Elements.{All-contains}
 use Rattle.std.proofs.lemmas.Bool.Decides.{nat_tests}
 use Rattle.profile.specs.series.Rules.{Rule, is_rule_day, is_counted, IsNextDay, NoDayFrom}
 use Rattle.profile.specs.series.Zones.{Zone, Means, IsOneMeaning, IsBounds, local_time}
-use Rattle.profile.specs.checker.Instances.{Key, Instance, horizon}
-use Rattle.profile.specs.events.Properties.{first_second}
+use Rattle.profile.specs.checker.Instances.{Key, Instance}
 use Rattle.profile.specs.events.ZonedTimes.{clock_of}
 use Rattle.profile.specs.events.EventRules.{IsOnDay}
 use Rattle.profile.specs.events.EventComponents.{EventComponent as SaidComponent, meeting_said}
-use Rattle.profile.specs.events.Starts.{IsGiven, IsRuleStart, IsReplaced, IsStart, IsInstance, ComesBefore, EndsAt, key_at}
+use Rattle.profile.specs.events.Starts.{IsGiven, IsRuleStart, IsStart, IsInstance, ComesBefore, EndsAt}
 use Rattle.cal_events.specs.Clocks.{IsAscending}
 use Rattle.cal_events.specs.Component.{component_of, times_of}
 use Rattle.cal_events.specs.Calendar.{MeetingName, key_in}

@@ -1,6 +1,6 @@
 -- The event with its instances that an object says, or the fault that it has.
 -- Cited by Event::read of event, MeetingComponents::of of meeting_components, MeetingComponents::read of meeting_components, judge_meeting of meeting_components, read_meeting of meeting_components.
-use Rattle.std.proofs.Common.{◌≡◌, ◌∙◌, ℕ, zero, suc, ◌<◌, ◌≤◌, Global, Bool, true, false, ◌&&◌, cond, List, [], ◌∷◌, ◌++◌, length, map, filter, append-nil, sym, ap, subst, refl, inl, inr, arith, ℤ, ◌||◌}
+use Rattle.std.proofs.Common.{◌≡◌, ◌∙◌, ℕ, zero, suc, ◌<◌, ◌≤◌, Global, Bool, true, false, ◌&&◌, cond, List, [], ◌∷◌, ◌++◌, length, map, filter, append-nil, sym, ap, subst, refl, inl, inr, arith, ℤ}
 use Rattle.std.specs.Option.{option_to_list}
 use Rattle.std.specs.Prelude.{Option, Some, None, Contains, is_some, unwrap_or, Result, Ok, Err, IfOk, IfErr, Vec}
 use Rattle.std.specs.List.{AllZip, list_all}

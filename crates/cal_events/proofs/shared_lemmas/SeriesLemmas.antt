@@ -1,6 +1,6 @@
 -- Series: what they are of their masters, and that they are one for each.
 -- Cited by EventComponent::series of component, Series::by_rule, Series::copy, Series::except, Series::key, Series::of, Series::without of series, all_starts of whole, known_by_start of whole.
-use Rattle.std.proofs.Common.{◌≡◌, ◌∙◌, ℕ, zero, suc, Bool, true, ◌&&◌, List, [], ◌∷◌, ◌++◌, ◌<◌, length, get_or, subst, sym, refl, ap, inl, inr, ◌⊎◌, arith, ℤ, ◌<ℤ◌, map}
+use Rattle.std.proofs.Common.{◌≡◌, ◌∙◌, zero, suc, Bool, true, ◌&&◌, List, [], ◌∷◌, length, get_or, subst, sym, refl, ap, inl, inr, ◌⊎◌, arith, ℤ, ◌<ℤ◌, map}
 use Rattle.std.specs.Prelude.{Option, Some, None, false, Contains, is_some, option_map, ◌↔◌}
 use Rattle.std.specs.List.{AllZip}
 use Rattle.std.specs.List.Sorted.{IsPermutation}

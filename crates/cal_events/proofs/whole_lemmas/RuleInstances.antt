@@ -1,7 +1,7 @@
 -- All instances of a series as a list, in no order: what its rule gives before year 10000.
 -- Cited by listed_series.
 use Rattle.std.proofs.Common.{◌≡◌, ◌∙◌, ℕ, zero, suc, ◌*◌, ◌/◌, ◌%◌, ◌<◌, Bool, true, false, List, [], ◌∷◌, length, map, refl, sym, ap, subst, inl, inr, ◌⊎◌, arith, ℤ, pos, negsuc, ◌+ℤ◌, ◌≤ℤ◌, unsigned_abs}
-use Rattle.std.specs.Prelude.{Option, None, Some, Contains, ◌&&◌, ◌↔◌}
+use Rattle.std.specs.Prelude.{Option, None, Some, Contains, ◌↔◌}
 use Rattle.std.specs.Ordering.{int_eq}
 use Rattle.std.specs.List.{list_any}
 use Rattle.std.proofs.lemmas.Bool.{cases_order, true≢false}
@@ -10,7 +10,6 @@ use Rattle.profile.specs.checker.Instances.{Instance, horizon}
 use Rattle.profile.specs.series.Rules.{Rule, is_rule_day}
 use Rattle.profile.specs.series.Zones.{Zone, Constant, Since, Until, IsOffsetAt, Means, IsOneMeaning, local_time}
 use Rattle.profile.specs.events.EventRules.{IsOnDay}
-use Rattle.profile.specs.events.EventComponents.{EventComponent as SaidComponent}
 use Rattle.profile.specs.events.Events.{Event as Whole}
 use Rattle.profile.specs.events.Properties.{first_second}
 use Rattle.profile.specs.events.ZonedTimes.{clock_of}
@@ -237,7 +236,7 @@ module _ (name : EventName) (master : Recurrence) (clock : IsOneMeaning (clock_o
 
 pub listed_instances : (series : Series) → (all : List Instance) × ((b : Instance) → Contains all b ↔ IsInstance (series_said series) b)
 listed_instances series =
-    let event = series.event in
+    let event = series.event.value in
     let m = own_master event series.ruled in
     let name = event.name in
     let master = m.0 in

@@ -19,10 +19,10 @@ use Rattle.room_books.specs.Meeting.{keyed_instance, of_key, series_of, instance
 module _ (key : MeetingKey) (s : Series) where
   -- its master
   abbrev own : EventComponent
-  own = master_of s.event.name (own_master s.event s.ruled).0
+  own = master_of s.event.value.name (own_master s.event.value s.ruled).0
 
   said_is : series_said s ≡ of_master own
-  said_is = (own_master s.event s.ruled).2
+  said_is = (own_master s.event.value s.ruled).2
 
   rekeyed_is : series_of key s ≡ of_master (of_key key own)
   rekeyed_is = ap (λ (w : Whole). record { master = option_map (of_key key) w.master; overrides = [] }) said_is

@@ -1,4 +1,4 @@
-use Rattle.std.proofs.Common.{codes, sym, ap, subst, refl, ◌∙◌, arith}
+use Rattle.std.proofs.Common.{codes, sym, ap, subst, ◌∙◌}
 use Rattle.std.specs.Prelude.{option_map}
 use Rattle.std.specs.Option.{option_to_list}
 use Rattle.ical_lines.specs.Text.{line_text}

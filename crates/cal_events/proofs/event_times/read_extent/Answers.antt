@@ -1,4 +1,4 @@
-use Rattle.std.proofs.Common.{◌≡◌, codes, sym, ap, subst, refl, ◌∙◌, to_z, of_z, w64, arith}
+use Rattle.std.proofs.Common.{◌≡◌, codes, ap, ◌∙◌, to_z, of_z, w64, arith}
 use Rattle.std.specs.Prelude.{option_map}
 use Rattle.std.specs.Option.{option_to_list}
 use Rattle.std.proofs.lemmas.Int.{ints}

@@ -1,4 +1,4 @@
-use Rattle.std.proofs.Common.{◌≡◌, ◌∙◌, sym, subst, arith, ℤ, to_z, of_z, w64, to_z-of_z, rules, FitsSigned}
+use Rattle.std.proofs.Common.{sym, subst, arith}
 use Rattle.std.proofs.lemmas.Int.{ints}
 use Rattle.cal_events.specs.Calendar.{instance_of}
 use Rattle.cal_events.specs.MeetingComponents.{IsInEventDates}

@@ -5,4 +5,4 @@ use Rattle.cal_events.proofs.whole.all_starts.Goals as goal
 
 pub returns : goal.returns
 returns c = λ series from instances all of begins given.
-    all_given (series_said series) (one_start series.event series.ruled) from instances all of begins given
+    all_given (series_said series) (one_start series.event.value series.ruled) from instances all of begins given

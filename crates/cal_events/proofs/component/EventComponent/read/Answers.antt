@@ -1,4 +1,4 @@
-use Rattle.std.proofs.Common.{◌∙◌, Bool, List, ℤ, codes, map, sym, ap, subst, refl, arith}
+use Rattle.std.proofs.Common.{◌∙◌, Bool, List, ℤ, codes, map, sym, ap, subst}
 use Rattle.std.specs.Prelude.{option_map}
 use Rattle.std.proofs.lemmas.Grind.{merely}
 use Rattle.ical_values.specs.Octets.{address_octets, text_octets}

@@ -1,4 +1,4 @@
-use Rattle.std.proofs.Common.{◌≡◌, [], List, length, map, sym, ap, subst, arith}
+use Rattle.std.proofs.Common.{◌≡◌, [], List, map, sym, subst, arith}
 use Rattle.std.specs.Prelude.{Some}
 use Rattle.profile.specs.events.Events.{Event as Whole}
 use Rattle.cal_events.specs.Component.{component_of}

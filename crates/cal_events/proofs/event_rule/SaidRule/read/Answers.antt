@@ -1,4 +1,4 @@
-use Rattle.std.proofs.Common.{◌∙◌, codes, sym, ap, subst, option_map}
+use Rattle.std.proofs.Common.{◌∙◌, codes, ap, subst, option_map}
 use Rattle.std.specs.Option.{option_to_list}
 use Rattle.ical_lines.specs.Fault.{RefusesBy}
 use Rattle.ical_lines.specs.Text.{line_text}

@@ -1,4 +1,3 @@
-use Rattle.std.proofs.Common.{◌∙◌, codes, sym, ap, subst, refl, arith}
 use Rattle.ical_values.proofs.Exits.{refusal_exit}
 use Rattle.profile.specs.events.EventComponents.{EventComponentFault, in_presence, may_lack_start}
 use Rattle.cal_events.specs.Component.{method_read}

@@ -12,9 +12,9 @@ use Rattle.cal_events.proofs.series.Series.period_days.Goals as goal
 pub returns-in_default : goal.returns-in_default
 returns-in_default c =
     let series = c.args.self.now in
-    let m = own_master series.event series.ruled in
-    let own = master_of series.event.name m.0 in
-    let is = ap (option_map (master_of series.event.name)) m.1 in
+    let m = own_master series.event.value series.ruled in
+    let own = master_of series.event.value.name m.0 in
+    let is = ap (option_map (master_of series.event.value.name)) m.1 in
     let rule = c.rule.result.now in
     no_rule_period (series_said series) own is rule (c.rule.ensures own is)
     (none_of_rule rule c.period_days.result c.period_days.ensures.ended c.period_days.ensures.endless c.shifts_are_multiples.ensures c.in_default.is)
@@ -22,9 +22,9 @@ returns-in_default c =
 pub returns : goal.returns
 returns c =
     let series = c.args.self.now in
-    let m = own_master series.event series.ruled in
-    let own = master_of series.event.name m.0 in
-    let is = ap (option_map (master_of series.event.name)) m.1 in
+    let m = own_master series.event.value series.ruled in
+    let own = master_of series.event.value.name m.0 in
+    let is = ap (option_map (master_of series.event.value.name)) m.1 in
     let rule = c.rule.result.now in
     let days = c.in-Some.rule_days in
     let zone_days = c.period_days-2.result in

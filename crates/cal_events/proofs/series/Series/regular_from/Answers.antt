@@ -13,9 +13,9 @@ returns c =
     let from = series.from in
     let fits : FitsSigned w64 from = search rules in
     let cast : to_z w64 (of_z w64 from) ≡ from = to_z-of_z fits in
-    let m = own_master series.event series.ruled in
-    let own = master_of series.event.name m.0 in
-    let is = ap (option_map (master_of series.event.name)) m.1 in
+    let m = own_master series.event.value series.ruled in
+    let own = master_of series.event.value.name m.0 in
+    let is = ap (option_map (master_of series.event.value.name)) m.1 in
     let x = c.first_onsets.result.0 in
     let y = c.first_onsets.result.1 in
     rw cast (read_past (series_said series) own from x y is series.past (subst (λ (z : Zone). AreFirstOnsets z x y) (c.zone.ensures own is) c.first_onsets.ensures))

@@ -11,4 +11,4 @@ returns c =
     let split = c.day_and_second-second in
     let d = split.result in
     let on : IsOnDay (times_of c.recurrence.result.now.times).local (day_index d.0) d.1 = (split.ensures.second, omega (arith, ints, split.ensures.sum, split.type_inv)) in
-    (master_of c.args.self.now.event.name c.recurrence.result.now, c.recurrence.ensures.master, day_index d.0, on)
+    (master_of c.args.self.now.event.value.name c.recurrence.result.now, c.recurrence.ensures.master, day_index d.0, on)

@@ -10,7 +10,7 @@ returns-clause-width c = λ master is.
     let n = c.width.result in
     let fits : FitsSigned w64 n = search rules in
     let cast : to_z w64 (of_z w64 n) ≡ n = to_z-of_z fits in
-    let same : master_of c.args.self.now.event.name c.recurrence.result.now ≡ master = same_Some (master_of c.args.self.now.event.name c.recurrence.result.now) master (sym c.recurrence.ensures.master ∙ is) in
+    let same : master_of c.args.self.now.event.value.name c.recurrence.result.now ≡ master = same_Some (master_of c.args.self.now.event.value.name c.recurrence.result.now) master (sym c.recurrence.ensures.master ∙ is) in
     rw cast (subst (λ (m : Said). IsWidth m.times n) same c.width.ensures.width)
 
 pub returns-clause-of : goal.returns-clause-of
@@ -18,4 +18,4 @@ returns-clause-of c =
     let n = c.width.result in
     let fits : FitsSigned w64 n = search rules in
     let cast : to_z w64 (of_z w64 n) ≡ n = to_z-of_z fits in
-    rw cast (master_of c.args.self.now.event.name c.recurrence.result.now, c.recurrence.ensures.master, c.width.ensures.width)
+    rw cast (master_of c.args.self.now.event.value.name c.recurrence.result.now, c.recurrence.ensures.master, c.width.ensures.width)

@@ -45,7 +45,7 @@ returns-then-not-is_accept c =
     let outcome = c.in_ok-outcome.outcome in
     let declined : is_accept (outcome_of outcome) ≡ false = sym c.is_accept.ensures ∙ c.if-not-is_accept.true in
     singles_decide (beside k es) k kept candidates (omega (arith, series_long (beside k es) k kept candidates, n, a, b, within, few)) outcome declined
-    (subst (λ (l : List Single). IsDecision (others k es) k (all_singles kept) l outcome) (c.deref.ensures.value ∙ c.in_ok-singles.ensures) (c.in_ok-outcome.ensures (all_singles kept) c.requires.parted))
+    (subst (λ (l : List Single). IsDecision (others k es) k (all_singles kept) l outcome) c.requires.singles (c.in_ok-outcome.ensures (all_singles kept) c.requires.parted))
 
 pub returns-in-Some : goal.returns-in-Some
 returns-in-Some c =
@@ -60,9 +60,9 @@ returns-in-Some c =
     let few = c.args.self.now.room.now.series_few in
     let outcome = c.in_ok-outcome.outcome in
     let accepts = accept_of (outcome_of outcome) (sym c.is_accept.ensures ∙ c.if-not-is_accept.false) in
-    let decision = subst (λ (l : List Single). IsDecision (others k es) k (all_singles kept) l outcome) (c.deref.ensures.value ∙ c.in_ok-singles.ensures) (c.in_ok-outcome.ensures (all_singles kept) c.requires.parted) in
-    let clear = beside_as (beside k es) k (all_singles kept) (now_of c.deref-2.result.now) (all_series kept) c.deref-3.result.now (all_singles candidates) (now_of c.deref-4.result.now) (all_series candidates) c.in_ok-clash.field-0 (Some c.in-Some.clash)
-    (ap now_of c.deref-2.ensures.value ∙ c.in_ok-kept.ensures ∙ is) (c.deref-3.ensures.value ∙ c.in_ok-singles.ensures) (ap now_of c.deref-4.ensures.value ∙ c.in_ok-wanted.ensures) found
+    let decision = subst (λ (l : List Single). IsDecision (others k es) k (all_singles kept) l outcome) c.requires.singles (c.in_ok-outcome.ensures (all_singles kept) c.requires.parted) in
+    let clear = beside_as (beside k es) k (all_singles kept) (now_of c.deref.result.now) (all_series kept) c.args.singles.now (all_singles candidates) (now_of c.deref-2.result.now) (all_series candidates) c.in_ok-clash.field-0 (Some c.in-Some.clash)
+    (ap now_of c.deref.ensures.value ∙ c.in_ok-kept.ensures ∙ is) c.requires.singles (ap now_of c.deref-2.ensures.value ∙ c.in_ok-wanted.ensures) found
     (c.in_ok-clash.ensures (all_singles kept) c.requires.parted) in
     series_clash (beside k es) k kept candidates (omega (arith, series_long (beside k es) k kept candidates, n, a, b, within, few)) outcome accepts decision (Declined c.in-Some.clash) c.in-Some.clash refl clear
 
@@ -79,9 +79,9 @@ returns c =
     let few = c.args.self.now.room.now.series_few in
     let outcome = c.in_ok-outcome.outcome in
     let accepts = accept_of (outcome_of outcome) (sym c.is_accept.ensures ∙ c.if-not-is_accept.false) in
-    let decision = subst (λ (l : List Single). IsDecision (others k es) k (all_singles kept) l outcome) (c.deref.ensures.value ∙ c.in_ok-singles.ensures) (c.in_ok-outcome.ensures (all_singles kept) c.requires.parted) in
-    let clear = beside_as (beside k es) k (all_singles kept) (now_of c.deref-2.result.now) (all_series kept) c.deref-3.result.now (all_singles candidates) (now_of c.deref-4.result.now) (all_series candidates) c.in_ok-clash.field-0 None
-    (ap now_of c.deref-2.ensures.value ∙ c.in_ok-kept.ensures ∙ is) (c.deref-3.ensures.value ∙ c.in_ok-singles.ensures) (ap now_of c.deref-4.ensures.value ∙ c.in_ok-wanted.ensures) found
+    let decision = subst (λ (l : List Single). IsDecision (others k es) k (all_singles kept) l outcome) c.requires.singles (c.in_ok-outcome.ensures (all_singles kept) c.requires.parted) in
+    let clear = beside_as (beside k es) k (all_singles kept) (now_of c.deref.result.now) (all_series kept) c.args.singles.now (all_singles candidates) (now_of c.deref-2.result.now) (all_series candidates) c.in_ok-clash.field-0 None
+    (ap now_of c.deref.ensures.value ∙ c.in_ok-kept.ensures ∙ is) c.requires.singles (ap now_of c.deref-2.ensures.value ∙ c.in_ok-wanted.ensures) found
     (c.in_ok-clash.ensures (all_singles kept) c.requires.parted) in
     series_accept (beside k es) k kept candidates (omega (arith, series_long (beside k es) k kept candidates, n, a, b, within, few)) outcome accepts decision
     (kept_clear k es (all_singles kept) (all_series kept) (kept_within (singles_by (lookup (same_key k) es)) c.args.self.now.gone.now (all_singles kept) c.requires.parted) c.requires.less.within c.args.self.now.room.now.series_clear) clear

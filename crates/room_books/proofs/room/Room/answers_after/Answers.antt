@@ -1,17 +1,19 @@
 use Rattle.std.proofs.Common.{◌≡◌, ◌≢◌, ◌∙◌, ◌++◌, [], List, length, sym, ap, arith}
-use Rattle.std.specs.Prelude.{◌==◌}
+use Rattle.std.specs.Prelude.{◌==◌, if◌then◌else◌}
 use denote.Ref.{Bor}
 use Rattle.std.proofs.lemmas.Bool.{true≢false}
 use Rattle.room_books.specs.declared.claim.Claim.{Claim}
 use Rattle.std.specs.Map.{lookup}
 use Rattle.std.proofs.lemmas.Grind.{common_steps}
 use Rattle.room_books.specs.Taking.{answers_by, answers_then, kept_then}
-use Rattle.room_books.specs.Meeting.{all_singles, beside, others, same_key, singles_by}
+use Rattle.profile.specs.rooms.Rooms.{is_accept}
+use Rattle.cal_events.specs.declared.instance.Single.{Single}
+use Rattle.room_books.specs.Meeting.{all_singles, outcome_of, beside, others, same_key, singles_by}
 use Rattle.room_books.proofs.room_lemmas.AllConfirmed.{all_reordered, kept_all_join}
 use Rattle.room_books.proofs.room_lemmas.Answered.{added_none, added_parted, answers_alone, answers_both}
 use Rattle.room_books.proofs.room_lemmas.Joining.{joins_reordered}
 use Rattle.room_books.proofs.shared_lemmas.Leaving.{parted_part}
-use Rattle.room_books.proofs.room_lemmas.RoomSteps.{kept_joins, answers_join, answers_series_join}
+use Rattle.room_books.proofs.room_lemmas.RoomSteps.{decided_singles, kept_joins, answers_join, answers_series_join}
 use Rattle.room_books.proofs.room_lemmas.WholeDeciding.{whole_as}
 use Rattle.room_books.proofs.room.Room.answers_after.Goals as goal
 
@@ -53,8 +55,8 @@ returns-clause-answered c =
     let k = c.args.key.now in let es = c.args.self.now.meetings.entries in let before = answers_by (lookup (same_key k) es) in
     let some : c.args.asked.now ≢ [] = λ e. true≢false (ap (λ (l : List (Bor Claim)). length l == 0) (sym e) ∙ sym c.is_empty.ensures ∙ c.if-is_empty.false) in
     let candidates = c.in_ok-candidates.candidates.items in
-    let decision = whole_as (beside k es) k (lookup (same_key k) es) c.deref.result.now c.args.change.lost.items c.deref-2.result.now c.args.change.left.items c.deref-4.result.now candidates c.in_ok-outcome.outcome
-    c.deref.ensures.value c.deref-2.ensures.value c.deref-4.ensures.value c.in_ok-outcome.ensures in
+    let decision = whole_as (beside k es) k (lookup (same_key k) es) c.deref-2.result.now c.args.change.lost.items c.deref-3.result.now c.args.change.left.items c.deref-5.result.now candidates c.in_ok-outcome.outcome
+    c.deref-2.ensures.value c.deref-3.ensures.value c.deref-5.ensures.value c.in_ok-outcome.ensures in
     let same = answers_both before c.args.change.lost.items c.args.change.left.items c.in_ok-new.new.items c.append.new.self.items c.in_ok-changes.changes (ap (λ v. v.items) c.in_ok-changes.ensures.lost) c.in_ok-append.ensures.items c.in_ok-changes.ensures.new in
     (some, (candidates, c.in_ok-new.new.items, c.in_ok-candidates.ensures, c.in_ok-new.ensures, decision, same))
 
@@ -64,7 +66,10 @@ returns-clause-added c =
     let kept = kept_then (lookup (same_key k) es) c.args.change.lost.items c.args.change.left.items in
     let changes = c.in_ok-changes.changes in
     let same = answers_both before c.args.change.lost.items c.args.change.left.items c.in_ok-new.new.items c.append.new.self.items changes (ap (λ v. v.items) c.in_ok-changes.ensures.lost) c.in_ok-append.ensures.items c.in_ok-changes.ensures.new in
-    added_parted (answers_then before changes) kept c.in_ok-new.new.items c.in_ok-added.added.items same (c.in_ok-added.ensures ∙ ap all_singles c.deref-5.ensures.value)
+    let outcome = c.in_ok-outcome.outcome in
+    let is = c.added_by-added.ensures ∙ ap (λ (l : List Single). if is_accept (outcome_of outcome) then l else []) (c.in_ok-singles.ensures ∙ ap all_singles c.deref.ensures.value)
+    ∙ sym (decided_singles outcome c.in_ok-candidates.candidates.items c.in_ok-new.new.items c.in_ok-new.ensures) in
+    added_parted (answers_then before changes) kept c.in_ok-new.new.items c.added_by-added.result.items same is
 
 pub returns-clause-joins : goal.returns-clause-joins
 returns-clause-joins c =
@@ -76,8 +81,8 @@ returns-clause-joins c =
     let candidates = c.in_ok-candidates.candidates.items in
     let new = c.in_ok-new.new.items in
     let changes = c.in_ok-changes.changes in
-    let decision = whole_as (beside k es) k (lookup (same_key k) es) c.deref.result.now c.args.change.lost.items c.deref-2.result.now c.args.change.left.items c.deref-4.result.now candidates c.in_ok-outcome.outcome
-    c.deref.ensures.value c.deref-2.ensures.value c.deref-4.ensures.value c.in_ok-outcome.ensures in
+    let decision = whole_as (beside k es) k (lookup (same_key k) es) c.deref-2.result.now c.args.change.lost.items c.deref-3.result.now c.args.change.left.items c.deref-5.result.now candidates c.in_ok-outcome.outcome
+    c.deref-2.ensures.value c.deref-3.ensures.value c.deref-5.ensures.value c.in_ok-outcome.ensures in
     let same = answers_both before c.args.change.lost.items c.args.change.left.items new c.append.new.self.items changes (ap (λ v. v.items) c.in_ok-changes.ensures.lost) c.in_ok-append.ensures.items c.in_ok-changes.ensures.new in
     joins_reordered (others k es) k (kept ++ new) (answers_then before changes) same (answers_join (others k es) k c.in_ok-outcome.outcome kept candidates new decision.joins c.in_ok-new.ensures joins)
 
@@ -89,7 +94,7 @@ returns-clause-recurs c =
     let candidates = c.in_ok-candidates.candidates.items in
     let new = c.in_ok-new.new.items in
     let changes = c.in_ok-changes.changes in
-    let decision = whole_as (beside k es) k (lookup (same_key k) es) c.deref.result.now c.args.change.lost.items c.deref-2.result.now c.args.change.left.items c.deref-4.result.now candidates c.in_ok-outcome.outcome
-    c.deref.ensures.value c.deref-2.ensures.value c.deref-4.ensures.value c.in_ok-outcome.ensures in
+    let decision = whole_as (beside k es) k (lookup (same_key k) es) c.deref-2.result.now c.args.change.lost.items c.deref-3.result.now c.args.change.left.items c.deref-5.result.now candidates c.in_ok-outcome.outcome
+    c.deref-2.ensures.value c.deref-3.ensures.value c.deref-5.ensures.value c.in_ok-outcome.ensures in
     let same = answers_both before c.args.change.lost.items c.args.change.left.items new c.append.new.self.items changes (ap (λ v. v.items) c.in_ok-changes.ensures.lost) c.in_ok-append.ensures.items c.in_ok-changes.ensures.new in
     all_reordered (beside k es) k (kept ++ new) (answers_then before changes) same (answers_series_join (beside k es) k c.in_ok-outcome.outcome kept candidates new decision.series c.in_ok-new.ensures joins)
