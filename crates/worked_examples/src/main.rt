@@ -6,6 +6,7 @@
 mod again;
 mod calendar_files;
 mod calendars;
+mod called;
 mod certificates;
 mod commands;
 mod counting;

@@ -1,7 +1,7 @@
 //! Cases of messages, calendars and certificates, of parts and of streams.
 
 use crate::files::read_all;
-use crate::{again, calendars, certificates, objects, organisers, parts, streams, written};
+use crate::{again, calendars, called, certificates, objects, organisers, parts, streams, written};
 use example_cases::{Case, NoAnswer};
 use std::rt::Files;
 
@@ -22,6 +22,7 @@ pub fn answer<R: Files + AllocGlobal>(rt: &R, case: Case<'_>) -> Result<String, 
         "shown" => organisers::shown_answer(alloc, case),
         "seen" => organisers::seen_answer(rt, case),
         "again" => again::again_answer(rt, case),
+        "called" => called::called_answer(rt, case),
         _ => answer_of_files(rt, case),
     }
 }
