@@ -19,23 +19,31 @@ const NOW: &str = "20250102T000000Z";
 
 /// What came of each call.
 pub fn called_answer<R: Files + AllocGlobal>(rt: &R, case: Case<'_>) -> Result<String, NoAnswer> {
-    let alloc = rt.alloc();
-    let mut hosted = Hosted::new(alloc)?;
-    let mut answers = Answers::new(alloc);
+    let mut hosted = Hosted::new(rt.alloc())?;
+    let mut answers = Answers::new(rt.alloc());
     let mut calls = case.column(3).split_whitespace();
     for name in case.input().split_whitespace() {
-        let Some(word) = calls.next() else {
-            return Err(NoAnswer::Unreadable);
-        };
-        let octets = read_all(rt, name)?;
-        let message = Message::read(alloc, octets.as_slice())?;
-        let answer = hosted.answer(Call::named(word)?, &message)?;
+        let word = calls.next();
+        let answer = called(rt, &mut hosted, name, word)?;
         answers.add(answer.as_str())?;
     }
-    if calls.next().is_some() {
-        return Err(NoAnswer::Unreadable);
+    match calls.next() {
+        Some(_) => Err(NoAnswer::Unreadable),
+        None => Ok(answers.finish()),
     }
-    Ok(answers.finish())
+}
+
+/// What came of the call of that name with the object of a file.
+fn called<R: Files + AllocGlobal>(
+    rt: &R,
+    hosted: &mut Hosted,
+    name: &str,
+    word: Option<&str>,
+) -> Result<String, NoAnswer> {
+    let call = Call::named(word)?;
+    let octets = read_all(rt, name)?;
+    let message = Message::read(rt.alloc(), octets.as_slice())?;
+    hosted.answer(call, &message)
 }
 
 /// A call that gets a message.
@@ -48,12 +56,12 @@ enum Call {
 }
 
 impl Call {
-    fn named(word: &str) -> Result<Call, NoAnswer> {
+    fn named(word: Option<&str>) -> Result<Call, NoAnswer> {
         match word {
-            "take" => Ok(Call::Take),
-            "store" => Ok(Call::Store),
-            "take_reply" => Ok(Call::TakeReply),
-            "take_refresh" => Ok(Call::TakeRefresh),
+            Some("take") => Ok(Call::Take),
+            Some("store") => Ok(Call::Store),
+            Some("take_reply") => Ok(Call::TakeReply),
+            Some("take_refresh") => Ok(Call::TakeRefresh),
             _ => Err(NoAnswer::Unreadable),
         }
     }
