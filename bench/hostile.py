@@ -87,8 +87,9 @@ def timed(words, stdin, folder, run):
         _, status, usage = os.wait4(child.pid, 0)
         child.returncode = os.waitstatus_to_exitcode(status)
         output.seek(0)
-        said.seek(0)
-        found = child.returncode, output.read(1 << 20), said.read(1 << 20)
+        # a report has a line for each object, and what is looked for at its end
+        said.seek(max(0, said.seek(0, os.SEEK_END) - (1 << 20)))
+        found = child.returncode, output.read(1 << 20), said.read()
     if found[0] != run.status or not re.search(run.output, found[1]) or not re.search(run.said, found[2]):
         sys.exit(f"{words}: status {found[0]}, {found[1][:200]!r}, {found[2][:200]!r}")
     return usage.ru_utime + usage.ru_stime, usage.ru_maxrss * 1024
