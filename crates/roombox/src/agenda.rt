@@ -1,10 +1,10 @@
 //! `agenda`: what a room has confirmed in a span of time, or when it is free.
 
-use crate::command_line::BadWord;
 use crate::host::{ErrorPrinter, read_file, read_room, read_zone, refuse_word, report_file};
 use cal_agenda::PageSpan;
 use cal_events::Span;
 use cal_zones::Zone;
+use command_line::{Agenda, BadWord, Form};
 use ical_values::{Address, Stamp};
 use sched_box::{DeviceWriter, Output};
 use sched_cli::{run_agenda, run_free, run_page, run_published};
@@ -14,30 +14,6 @@ use std::rt::Runtime;
 
 /// 10000-01-01T00:00:00Z: where a span ends that has no `--until`. Nothing is confirmed from then on.
 const LAST: i64 = 253_402_300_800;
-
-/// The words of `agenda`.
-#[derive(Clone, Copy)]
-pub struct Agenda<'a> {
-    pub calendar: &'a str,
-    pub room: &'a str,
-    pub from: Option<&'a str>,
-    pub until: Option<&'a str>,
-    pub zone: Option<&'a str>,
-    pub form: Form,
-}
-
-/// What is printed.
-#[derive(Clone, Copy, PartialEq, Eq)]
-pub enum Form {
-    /// A line for each instance.
-    Lines,
-    /// A line for each span in which the room is free.
-    Free,
-    /// An iCalendar object.
-    Object,
-    /// A page of HTML.
-    Page,
-}
 
 /// What is asked, once its words are read.
 #[derive(Clone, Copy)]

@@ -2,13 +2,13 @@
 
 use crate::agenda::invoke_agenda;
 use crate::behind::{Answers, StreamWork, Work, read_whole, run_behind};
-use crate::command_line::{BadWord, Invocation, Reading, fault_of, read_words};
 use crate::progress::Progress;
 use crate::reasons::{
     Wanted, WatchedReader, WatchedWriter, say_configuration, say_device, say_folder, say_output,
     say_reasons,
 };
 use cal_zones::RoomZone;
+use command_line::{BadWord, Invocation, Reading, fault_of, read_words};
 use ical_lines::Fault;
 use ical_values::Address;
 use sched_box::config::LONGEST;
@@ -124,10 +124,10 @@ fn invoke<R: Runtime + AllocGlobal>(
         Invocation::Serve { report, reading } => invoke_serve(rt, alloc, report, reading),
         Invocation::Keep {
             room,
-            kept,
+            certificate,
             reading,
         } => match read_room(rt, alloc, room) {
-            Ok(room) => invoke_keep(rt, alloc, &room, kept, reading),
+            Ok(room) => invoke_keep(rt, alloc, &room, kept_text(certificate), reading),
             Err(status) => status,
         },
         Invocation::Meetings { organiser, reading } => {
@@ -264,6 +264,15 @@ fn serve_reporting<R: Runtime + AllocGlobal, I: Input, W: Output + Drop>(
         &mut log,
         &mut errors,
     )
+}
+
+/// Which text of a room is asked for.
+fn kept_text(certificate: bool) -> KeptText {
+    if certificate {
+        KeptText::Certificate
+    } else {
+        KeptText::Calendar
+    }
 }
 
 fn invoke_keep<R: Runtime + AllocGlobal>(

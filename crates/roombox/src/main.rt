@@ -3,7 +3,6 @@
 
 mod agenda;
 mod behind;
-mod command_line;
 mod host;
 mod progress;
 mod reasons;

@@ -1,9 +1,9 @@
-//! The words of the command line (clap reads them).
+//! The words of the command line of `roombox`, which clap reads: what they ask for, its help, and the faults of words without
+//! a meaning. What they mean is asked in `roombox`.
+#![tactic(auto)]
 
-use crate::agenda::{Agenda, Form};
 use clap::error::ErrorKind;
 use clap::{Arg, ArgAction, ArgMatches, Command, Error};
-use sched_cli::commands::KeptText;
 use std::alloc::{AllocError, Global};
 
 /// What a command line asks for. ROOM, ORGANISER, N and NUMBER are still words here; CALENDAR, CERTIFICATE, CONFIG, INBOX, OUTBOX,
@@ -14,9 +14,10 @@ pub enum Invocation<'a> {
         report: bool,
         reading: Reading<'a>,
     },
+    /// What a room keeps: its certificate, or its calendar.
     Keep {
         room: &'a str,
-        kept: KeptText,
+        certificate: bool,
         reading: Reading<'a>,
     },
     Meetings {
@@ -52,6 +53,30 @@ pub enum Invocation<'a> {
         report: bool,
         reading: Reading<'a>,
     },
+}
+
+/// The words of `agenda`: a file, a room, and a span of two stamps.
+#[derive(Clone, Copy)]
+pub struct Agenda<'a> {
+    pub calendar: &'a str,
+    pub room: &'a str,
+    pub from: Option<&'a str>,
+    pub until: Option<&'a str>,
+    pub zone: Option<&'a str>,
+    pub form: Form,
+}
+
+/// What `agenda` prints.
+#[derive(Clone, Copy, PartialEq, Eq)]
+pub enum Form {
+    /// A line for each instance.
+    Lines,
+    /// A line for each span in which the room is free.
+    Free,
+    /// An iCalendar object.
+    Object,
+    /// A page of HTML.
+    Page,
 }
 
 /// How objects are read.
@@ -299,7 +324,7 @@ const SINGLE_HELP: &str = "Hand on each VEVENT of an answer in an object of its 
 
 const OUTBOX_HELP: &str = "The folder of the answers, which this program alone writes";
 
-/// Reads the words; the first is the program's name.
+/// Reads the words; the first is the program's name. An error is what clap says of them, help and version too, or out of memory.
 pub fn read_words<'a>(alloc: Global, words: &'a [String]) -> Result<Invocation<'a>, Error> {
     let matches = program(alloc)?.try_get_matches_from(words)?;
     Ok(invocation_of(&matches))
@@ -549,7 +574,7 @@ fn invocation_of<'a>(matches: &ArgMatches<'a>) -> Invocation<'a> {
     match matches.subcommand() {
         Some(("keep", words)) => Invocation::Keep {
             room: words.get_str("ROOM").unwrap_or(""),
-            kept: kept_of(words),
+            certificate: words.get_flag("certificate"),
             reading: reading_of(words),
         },
         Some(("meetings", words)) => Invocation::Meetings {
@@ -627,13 +652,5 @@ fn reading_of<'a>(words: &ArgMatches<'a>) -> Reading<'a> {
         Reading::Adapted(words.get_str("zones"))
     } else {
         Reading::Plain
-    }
-}
-
-fn kept_of(words: &ArgMatches<'_>) -> KeptText {
-    if words.get_flag("certificate") {
-        KeptText::Certificate
-    } else {
-        KeptText::Calendar
     }
 }
