@@ -28,6 +28,8 @@ from repository import ROOT, RT, copied, crates_below, pairs_of
 FUNCTION = re.compile(r"^( *)(?:pub(?:\([^)]*\))? )?(?:const )?(?:unsafe )?fn (\w+)")
 IMPL = re.compile(r"^impl(?:<[^{]*?>)? (?:([\w:]+)(?:<.*>)? for )?&?(?:'\w+ )?(?:mut )?(\w+)")
 VERDICT = re.compile(r"^fn (\S+): (.*)$", re.MULTILINE)
+# where rt check couldn't read a source
+ERROR_AT = re.compile(r"^(?:\./)?(src/\S+?\.rt):\d+:.* error", re.MULTILINE)
 BY_A_CALL = re.compile(r"no proof: it calls .* not proved")
 # what a proof file says where an edit took away a name that it cites; such a refusal shows little
 BY_A_NAME = re.compile(r"has no field|is not in scope|has no `|was not admitted")
@@ -132,9 +134,14 @@ def tried(crate, below, edits):
             how = refusal(said, edits[0].functions) or (refusal(said, None) and "by the goals of another function")
             yield edits[0], how or "in a definition", ""
     elif not is_read:
-        # one of them can't be read, or not beside the others
-        yield from tried(crate, below, edits[: len(edits) // 2])
-        yield from tried(crate, below, edits[len(edits) // 2 :])
+        # one of them can't be read, or not beside the others: first those of the files that an error names
+        named = {*ERROR_AT.findall(said)}
+        is_named = lambda it: any(file in named for file, _, _ in it.pairs)
+        first, rest = [it for it in edits if is_named(it)], [it for it in edits if not is_named(it)]
+        if not first or not rest:
+            first, rest = edits[: len(edits) // 2], edits[len(edits) // 2 :]
+        yield from tried(crate, below, first)
+        yield from tried(crate, below, rest)
     else:
         for edit in edits:
             how = refusal(said, edit.functions)
