@@ -3,10 +3,10 @@ use Rattle.std.proofs.Common.{◌≡◌, ◌∙◌, ap, refl, subst, inl, inr, �
 use Rattle.std.specs.Prelude.{None}
 use Rattle.profile.specs.doors.Adapting.{IsAdapted}
 use Rattle.sched_cli.specs.Diagnosis.{IsEnding, IsHelp, IsPlaceText, IsReason, place_text, way_text}
-use Rattle.sched_cli.specs.EventFlaws.{IsFlawIn, flaw_text}
-use Rattle.sched_cli.specs.InTheWay.{IsInTheWay}
-use Rattle.sched_cli.specs.declared.event_flaw.PlacedFlaw.{PlacedFlaw}
-use Rattle.sched_cli.specs.declared.refused_zone.InTheWay.{InTheWay}
+use Rattle.fault_places.specs.EventFlaws.{IsFlawIn, flaw_text}
+use Rattle.fault_places.specs.InTheWay.{IsInTheWay}
+use Rattle.fault_places.specs.declared.event_flaw.PlacedFlaw.{PlacedFlaw}
+use Rattle.fault_places.specs.declared.refused_zone.InTheWay.{InTheWay}
 
 pub two_joined : (old one new a b : List ℕ) → one ≡ old ++ a → new ≡ one ++ b → new ≡ old ++ (a ++ b)
 two_joined old one new a b e f = f ∙ ap (λ z. z ++ b) e ∙ append_assoc old a b

@@ -1,14 +1,9 @@
 pub mod Adapted
-pub mod BlameLemmas
-pub mod CauseLemmas
 pub mod DiagnosisLemmas
 pub mod HandedBack
 pub mod Keeping
 pub mod Meanings
-pub mod ObstacleLemmas
-pub mod PlaceLemmas
 pub mod Printing
-pub mod RefusedLemmas
 pub mod RunningLemmas
 pub mod Saying
 pub mod Showing

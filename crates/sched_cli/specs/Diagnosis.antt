@@ -8,14 +8,14 @@ use Rattle.profile.specs.events.Messages.{Message, SpellsMessage, MessageTextFau
 use Rattle.ical_tree.specs.Reading.{ObjectHas}
 use Rattle.cal_events.specs.Component.{method_said}
 use Rattle.itip_messages.specs.declared.message.Message as itip
-use Rattle.sched_cli.specs.EventFlaws.{IsFlawIn, flaw_text}
+use Rattle.fault_places.specs.EventFlaws.{IsFlawIn, flaw_text}
 use Rattle.sched_cli.specs.Explained.{meaning_of}
-use Rattle.sched_cli.specs.InTheWay.{IsInTheWay}
-use Rattle.sched_cli.specs.Obstacles.{words_of}
-use Rattle.sched_cli.specs.Searching.{IsBlamedPlace}
-use Rattle.sched_cli.specs.declared.event_flaw.PlacedFlaw.{PlacedFlaw}
-use Rattle.sched_cli.specs.declared.place.Sought.TheVariants.{Fault}
-use Rattle.sched_cli.specs.declared.refused_zone.InTheWay.{InTheWay}
+use Rattle.fault_places.specs.InTheWay.{IsInTheWay}
+use Rattle.fault_places.specs.Obstacles.{words_of}
+use Rattle.fault_places.specs.Searching.{IsBlamedPlace}
+use Rattle.fault_places.specs.declared.event_flaw.PlacedFlaw.{PlacedFlaw}
+use Rattle.fault_places.specs.declared.place.Sought.TheVariants.{Fault}
+use Rattle.fault_places.specs.declared.refused_zone.InTheWay.{InTheWay}
 
 -- ---- an object that isn't refused
 

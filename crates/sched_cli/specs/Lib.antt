@@ -1,17 +1,11 @@
 pub mod Adapting
 pub mod Agendas
-pub mod Blame
 pub mod Commands
 pub mod Diagnosis
-pub mod EventFlaws
 pub mod Explained
 pub mod Expanding
-pub mod InTheWay
 pub mod Meetings
 pub mod Logging
-pub mod Obstacles
-pub mod Places
 pub mod Reporting
 pub mod Returned
 pub mod Running
-pub mod Searching

@@ -4,16 +4,16 @@ ghost use Rattle.std.specs.Prelude.{◌≡◌, ◌≤◌, ◌++◌, ◌⊎◌, �
 ghost use Rattle.std.specs.Io.KnownBytes.{Appends, Keeps};
 ghost use Rattle.sched_cli.specs.Commands.{BlamesDevice, IsStatusSaid, TellsDevice};
 ghost use Rattle.sched_cli.specs.Diagnosis.{HasFault, IsEnding, IsHelp, IsMeaningOf, IsPlaceText, IsMessageText, IsReason, IsRefusedText, SaysRefused, SaysTaken, message_line, place_text, property_text, way_text};
-ghost use Rattle.sched_cli.specs.EventFlaws.{flaw_text, flaw_words};
+ghost use Rattle.fault_places.specs.EventFlaws.{flaw_text, flaw_words};
 ghost use Rattle.sched_cli.specs.Explained.{is_explained};
 
-use crate::event_flaw::{FlawKind, PlacedFlaw, flaw_in_object};
 use crate::explain::explanation;
-use crate::place::{Place, Sought, place_of};
-use crate::refused_zone::{InTheWay, in_the_way};
 use crate::status::{DONE, NO, report_memory, report_write};
 use cal_doors::adapt;
 use cal_events::Method;
+use fault_places::{
+    FlawKind, InTheWay, Place, PlacedFlaw, Sought, flaw_in_object, in_the_way, place_of,
+};
 use ical_lines::Fault;
 use itip_messages::Message;
 use itoa::Buffer;

@@ -3,20 +3,15 @@
 
 pub mod adapt;
 pub mod agenda;
-mod blame;
 pub mod commands;
 pub mod diagnosis;
-mod event_flaw;
 pub mod expand;
 pub mod explain;
 pub mod folders;
 mod header;
 pub mod log;
 pub mod meetings;
-mod obstacle;
-pub mod place;
 pub mod preamble;
-mod refused_zone;
 mod returned;
 mod shown;
 pub mod status;

@@ -1,8 +1,8 @@
 use Rattle.std.proofs.Common.{IfSome, inr, refl, subst}
 use Rattle.sched_cli.specs.Diagnosis.{place_text}
-use Rattle.sched_cli.specs.Searching.{IsBlamedPlace}
-use Rattle.sched_cli.specs.declared.place.Sought.TheVariants.{Fault}
-use Rattle.sched_cli.proofs.PlaceLemmas.{on_ok}
+use Rattle.fault_places.specs.Searching.{IsBlamedPlace}
+use Rattle.fault_places.specs.declared.place.Sought.TheVariants.{Fault}
+use Rattle.fault_places.proofs.PlaceLemmas.{on_ok}
 use Rattle.sched_cli.proofs.diagnosis.append_blamed.Goals as goal
 
 pub returns : goal.returns

@@ -2,7 +2,7 @@ use Rattle.std.proofs.Common.{IfSome, map, subst}
 use Rattle.std.specs.Prelude.{None, string_bytes}
 use Rattle.profile.specs.doors.Adapting.{IsAdapted}
 use Rattle.sched_cli.proofs.DiagnosisLemmas.{helps}
-use Rattle.sched_cli.proofs.PlaceLemmas.{on_ok}
+use Rattle.fault_places.proofs.PlaceLemmas.{on_ok}
 use Rattle.sched_cli.proofs.diagnosis.append_help.Goals as goal
 
 pub returns : goal.returns

@@ -1,7 +1,7 @@
 use Rattle.std.proofs.Common.{IfSome, subst}
-use Rattle.sched_cli.specs.EventFlaws.{IsFlawIn}
+use Rattle.fault_places.specs.EventFlaws.{IsFlawIn}
 use Rattle.sched_cli.proofs.DiagnosisLemmas.{blamed_reason, flaw_reason}
-use Rattle.sched_cli.proofs.PlaceLemmas.{on_ok}
+use Rattle.fault_places.proofs.PlaceLemmas.{on_ok}
 use Rattle.sched_cli.proofs.diagnosis.append_line.Goals as goal
 
 pub returns-in_default : goal.returns-in_default

@@ -1,6 +1,6 @@
 use Rattle.std.proofs.Common.{◌∙◌, ◌++◌, ap, codes, decimal}
 use Rattle.sched_cli.specs.Diagnosis.{property_text}
-use Rattle.sched_cli.proofs.PlaceLemmas.{joined, on_ok}
+use Rattle.fault_places.proofs.PlaceLemmas.{joined, on_ok}
 use Rattle.sched_cli.proofs.diagnosis.append_place.Goals as goal
 
 pub returns : goal.returns

@@ -1,7 +1,7 @@
 use Rattle.std.proofs.Common.{IfSome, subst}
-use Rattle.sched_cli.specs.InTheWay.{IsInTheWay}
+use Rattle.fault_places.specs.InTheWay.{IsInTheWay}
 use Rattle.sched_cli.proofs.DiagnosisLemmas.{way_reason}
-use Rattle.sched_cli.proofs.PlaceLemmas.{on_ok}
+use Rattle.fault_places.proofs.PlaceLemmas.{on_ok}
 use Rattle.sched_cli.proofs.diagnosis.append_reason.Goals as goal
 
 pub returns : goal.returns

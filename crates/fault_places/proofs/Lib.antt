@@ -1,0 +1,5 @@
+pub mod BlameLemmas
+pub mod CauseLemmas
+pub mod ObstacleLemmas
+pub mod PlaceLemmas
+pub mod RefusedLemmas

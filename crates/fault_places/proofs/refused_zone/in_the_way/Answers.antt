@@ -1,0 +1,39 @@
+use Rattle.std.proofs.Common.{◌≡◌, true, IfSome, subst}
+use Rattle.std.proofs.lemmas.Option.{IfSome_then}
+use Rattle.std.proofs.lemmas.Result.{IfOk-weaker}
+use Rattle.ical_tree.specs.Tree.{IsObjectOf}
+use Rattle.profile.specs.text.Lines.{logical_lines}
+use Rattle.fault_places.specs.InTheWay.{IsInTheWay, NamesRefused}
+use Rattle.fault_places.specs.Obstacles.{IsCause}
+use Rattle.fault_places.proofs.RefusedLemmas.{zone_fault}
+use Rattle.fault_places.proofs.refused_zone.in_the_way.Goals as goal
+
+pub cause_in-requires : goal.cause_in-requires
+cause_in-requires c =
+    let object = c.in-Some-2.object in
+    let n = c.args.number in
+    zone_fault object n c.in-Some-3.zone.now (subst (λ o. IfSome o (λ zone. NamesRefused object n zone.now)) c.in-Some-3.is c.in_ok-zone.ensures)
+
+pub returns : goal.returns
+returns c =
+    let octets = c.args.octets.now in
+    let n = c.args.number in
+    let lines = subst (λ o. IfSome o (λ text. text ≡ logical_lines octets)) c.in-Some.is c.in_ok-text.ensures in
+    let object = c.in-Some-2.object in
+    let spelled = subst (λ o. IfSome o (λ x. IsObjectOf true x c.in-Some.text)) c.in-Some-2.is c.in_ok-object.ensures in
+    let zone = c.in-Some-3.zone.now in
+    let refused = subst (λ o. IfSome o (λ z. NamesRefused object n z.now)) c.in-Some-3.is c.in_ok-zone.ensures in
+    let found = c.in-Some-4.found in
+    let cause = subst (λ o. IfSome o (IsCause zone n)) c.in-Some-4.is c.in_ok-found.ensures in
+    IfOk-weaker c.placed.result _ _
+    (λ way h. IfSome_then way {Q = IsInTheWay octets n} h
+    (λ it placed. record {
+      object = object;
+      spelled = subst (IsObjectOf true object) lines spelled;
+      zone = zone;
+      refused = refused;
+      found = found;
+      cause = cause;
+      placed = placed;
+    }))
+    c.placed.ensures

@@ -1,0 +1,218 @@
+//! Which property of a VEVENT is missing, or there twice, where an object is refused for that (RFC 5545 3.6.1).
+
+ghost use Rattle.std.specs.Prelude.{◌≡◌, None, IfOk, IfSome};
+ghost use Rattle.ical_tree.specs.Tree.{component_children, component_lines};
+ghost use Rattle.fault_places.specs.EventFlaws.{FlawIn, IsFlaw, IsFlawIn, IsFlawPlaced};
+ghost use Rattle.fault_places.specs.InTheWay.{sought_line};
+ghost use Rattle.fault_places.specs.Obstacles.{text_of};
+
+use crate::obstacle::{first_line, second_line};
+use crate::place::{Place, Sought, Spot, place_of};
+use crate::refused_zone::{object_of, text_of};
+use cal_events::{Method, PROPERTIES, Property};
+use ical_lines::Refusal;
+use ical_tree::Component;
+use std::alloc::{AllocError, Global};
+
+/// What is wrong with a property.
+#[derive(Clone, Copy, PartialEq, Eq)]
+pub enum FlawKind {
+    /// It isn't there.
+    Missing,
+    /// It occurs twice.
+    Twice,
+    /// It stands beside another one that excludes it.
+    Beside,
+}
+
+/// What is wrong with a VEVENT.
+#[derive(Clone, Copy)]
+pub(crate) struct Flaw<'a> {
+    pub(crate) kind: FlawKind,
+    pub(crate) property: &'a str,
+    /// The text of the line; None where it isn't there.
+    pub(crate) line: Option<&'a str>,
+}
+
+/// What is wrong with a component of an object.
+#[derive(Clone, Copy)]
+pub(crate) struct EventFlaw<'a> {
+    /// Which of the components inside it is the VEVENT, counted from 0.
+    pub(crate) event: usize,
+    /// Its name, as it is written.
+    pub(crate) name: &'a str,
+    pub(crate) flaw: Flaw<'a>,
+}
+
+/// What is wrong with a component, with its places in the object.
+#[derive(Drop)]
+pub struct PlacedFlaw {
+    pub kind: FlawKind,
+    pub property: Vec<u8>,
+    /// The name of the VEVENT, as it is written.
+    pub event: Vec<u8>,
+    /// The physical line on which that begins, counted from 1.
+    pub begins: u64,
+    /// The content line that is wrong, or the BEGIN of the VEVENT.
+    pub place: Place,
+}
+
+/// The first flaw of a VEVENT of an object that is refused with 61 or 63; None for another number.
+pub fn flaw_in_object(
+    alloc: Global,
+    octets: &[u8],
+    number: u8,
+) -> Result<Option<PlacedFlaw>, AllocError>
+    ensures { IfOk result (λ found. IfSome found (IsFlawIn octets.now)) }
+{
+    if number != Refusal::BAD_PROPERTY.number && number != Refusal::NO_ORGANIZER.number {
+        return Ok(None);
+    }
+    let Some(text) = text_of(alloc, octets)? else {
+        return Ok(None);
+    };
+    let Some(object) = object_of(alloc, &text)? else {
+        return Ok(None);
+    };
+    let Some(found) = first_flaw(&object, number) else {
+        return Ok(None);
+    };
+    placed(alloc, octets, found)
+}
+
+/// The first flaw of a VEVENT of an object.
+fn first_flaw<'c>(object: &'c Component, number: u8) -> Option<EventFlaw<'c>>
+    ensures { IfSome result (FlawIn (component_children object.now)) }
+{
+    let method = method_of(object);
+    for (event, component) in object.children().iter().enumerate() {
+        if component.is_named("VEVENT") {
+            if let Some(flaw) = flaw_of(component, method, number) {
+                return Some(EventFlaw {
+                    event,
+                    name: component.name(),
+                    flaw,
+                });
+            }
+        }
+    }
+    None
+}
+
+/// What METHOD says; without one it is a store. A word that names no method is refused before any VEVENT is looked at.
+fn method_of(object: &Component) -> Method {
+    match first_line(object, "METHOD") {
+        Some(line) => Method::named(line.value()).unwrap_or(Method::Store),
+        None => Method::Store,
+    }
+}
+
+/// What is wrong with a VEVENT of an object of this METHOD, where the object is refused with this number.
+fn flaw_of<'c>(event: &'c Component, method: Method, number: u8) -> Option<Flaw<'c>>
+    ensures { IfSome result (λ flaw. IsFlaw (component_lines event.now) flaw) }
+{
+    if number == Refusal::NO_ORGANIZER.number {
+        return flaw_in(event, Property::Organizer, true);
+    }
+    for property in PROPERTIES {
+        if property.presence(Some(method)).is_single() {
+            let is_needed = is_needed(property, method);
+            if let Some(flaw) = flaw_in(event, property, is_needed) {
+                return Some(flaw);
+            }
+        }
+    }
+    beside(event)
+}
+
+/// Whether 61 is the number of a property that METHOD asks for, and that is missing; that of ORGANIZER is 63.
+fn is_needed(property: Property, method: Method) -> bool {
+    property != Property::Organizer && property.presence(Some(method)).is_once()
+}
+
+/// A property that is there twice, or that is needed and isn't there.
+fn flaw_in<'c>(event: &'c Component, property: Property, is_needed: bool) -> Option<Flaw<'c>>
+    ensures { IfSome result (λ flaw. IsFlaw (component_lines event.now) flaw) }
+{
+    let name = property.name();
+    if first_line(event, name).is_none() {
+        return Flaw::missing(name, is_needed);
+    }
+    let line = second_line(event, name)?;
+    Some(Flaw {
+        kind: FlawKind::Twice,
+        property: name,
+        line: Some(line.text()),
+    })
+}
+
+/// DURATION beside DTEND.
+fn beside<'c>(event: &'c Component) -> Option<Flaw<'c>>
+    ensures { IfSome result (λ flaw. IsFlaw (component_lines event.now) flaw) }
+{
+    first_line(event, Property::Dtend.name())?;
+    let property = Property::Duration.name();
+    let line = first_line(event, property)?;
+    Some(Flaw {
+        kind: FlawKind::Beside,
+        property,
+        line: Some(line.text()),
+    })
+}
+
+impl<'a> Flaw<'a> {
+    /// Of one that isn't there, where it is needed.
+    fn missing(property: &'a str, is_needed: bool) -> Option<Flaw<'a>>
+        ensures { IfSome result (λ flaw. (flaw.kind ≡ FlawKind.Missing) × (flaw.property.now ≡ property.now) × (text_of flaw.line ≡ None)) }
+    {
+        if !is_needed {
+            return None;
+        }
+        Some(Flaw {
+            kind: FlawKind::Missing,
+            property,
+            line: None,
+        })
+    }
+}
+
+/// What is wrong, with its places in the object.
+fn placed(
+    alloc: Global,
+    octets: &[u8],
+    found: EventFlaw<'_>,
+) -> Result<Option<PlacedFlaw>, AllocError>
+    ensures { IfOk result (λ flaw. IfSome flaw (IsFlawPlaced octets.now found.entry)) }
+{
+    let spot = Spot {
+        zone: found.event,
+        part: None,
+    };
+    let Some(begins) = place_of(alloc, octets, Sought::Begin(spot, found.name))? else {
+        return Ok(None);
+    };
+    let Some(place) = place_of(alloc, octets, sought_line(spot, found))? else {
+        return Ok(None);
+    };
+    let mut event = Vec::new(alloc);
+    event.extend_from_slice(found.name.as_bytes())?;
+    let mut property = Vec::new(alloc);
+    property.extend_from_slice(found.flaw.property.as_bytes())?;
+    Ok(Some(PlacedFlaw {
+        kind: found.flaw.kind,
+        property,
+        event,
+        begins: begins.line,
+        place,
+    }))
+}
+
+/// The line that is wrong, or the BEGIN of the VEVENT.
+fn sought_line<'a>(spot: Spot, found: EventFlaw<'a>) -> Sought<'a>
+    ensures { result ≡ sought_line spot found.entry.name found.entry.flaw.line }
+{
+    match found.flaw.line {
+        Some(text) => Sought::Text(spot, text),
+        None => Sought::Begin(spot, found.name),
+    }
+}

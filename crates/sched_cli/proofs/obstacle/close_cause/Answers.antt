@@ -1,5 +1,0 @@
-use Rattle.sched_cli.proofs.CauseLemmas.{close_there}
-use Rattle.sched_cli.proofs.obstacle.close_cause.Goals as goal
-
-pub returns : goal.returns
-returns c = close_there c.args.zone.now c.in_ok-part.part.component.now c.itself.result c.in_ok-part.ensures.found c.itself.ensures.name c.itself.ensures.obstacle c.itself.ensures.line
