@@ -570,7 +570,7 @@ def overlaps(program, instant):
     asked = f"overlap {instant} {instant + 86_400}"
     text = IN_NEW_YORK.format(start="19700101T090000", rule="FREQ=DAILY").replace("\n", "\\r\\n")
     with tempfile.TemporaryDirectory() as folder:
-        for table in ("messages.txt", "residues.txt", "commands.txt", "calendars.txt", "organisers.txt"):
+        for table in ("messages.txt", "residues.txt", "calendars.txt", "organisers.txt"):
             open(os.path.join(folder, table), "w", encoding="ascii").close()
         with open(os.path.join(folder, "events.txt"), "w", encoding="ascii") as file:
             file.writelines(f"{number} | text | {text} | {asked}\n" for number in range(EVENTS))

@@ -19,7 +19,7 @@ import sys
 from repository import ROOT, crates_below
 
 # Crates of definitions, examples and tests, and the program, which nobody calls.
-LEFT_OUT = {"profile", "example_cases", "text_examples", "worked_examples", "folder_examples", "schedule_examples", "device_tests", "roombox"}
+LEFT_OUT = {"profile", "example_cases", "text_examples", "worked_examples", "command_examples", "schedule_examples", "device_tests", "roombox"}
 # What can't be put back after a failure, by the trait that it has, with the reason.
 NOT_PUT_BACK = {
     "Input": "octets that were read are gone; other clauses say which",

@@ -29,7 +29,7 @@ MADE = re.compile(r"\+|Destruct|::fn::|(?:PartialEq|Eq|Clone|Copy|PartialOrd|Ord
 FUNCTION = re.compile(r"^\s*(?P<public>pub(?:\([a-z]+\))? )?(?:const )?fn (?P<name>\w+)(?:<[^>]*>)?\((?P<parameters>[^)]*)\)", re.MULTILINE)
 CLAUSE = re.compile(r"\s*(?://|ensures|requires|ghost)")
 # programs of examples and laws, which do nothing for a user
-OTHERS = {"example_cases", "text_examples", "worked_examples", "schedule_examples", "folder_examples", "device_tests", "box_laws", "sched_laws"}
+OTHERS = {"example_cases", "text_examples", "worked_examples", "command_examples", "schedule_examples", "device_tests", "box_laws", "sched_laws"}
 
 
 def functions():

@@ -85,7 +85,7 @@ def pair_alone(worked, requests, program):
     def asked(count):
         case = f"a pair | text | {calendar}" + f" | clashes {ROOM.format(0)}" * count + "\n"
         with tempfile.TemporaryDirectory() as folder:
-            for name in ("messages.txt", "residues.txt", "commands.txt", "events.txt", "calendars.txt", "organisers.txt"):
+            for name in ("messages.txt", "residues.txt", "events.txt", "calendars.txt", "organisers.txt"):
                 with open(os.path.join(folder, name), "w", encoding="utf-8") as file:
                     file.write(case if name == "messages.txt" else "")
             seconds, _, status, output = run([os.path.abspath(worked)], subprocess.DEVNULL, folder)

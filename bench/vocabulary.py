@@ -18,7 +18,7 @@ CRATES = ROOT / "crates"
 PAGE, DATA = ROOT / "docs" / "DEFINITIONS.md", ROOT / "bench" / "vocabulary.tsv"
 BEGIN, END = "<!-- table: bench/vocabulary.py -->\n", "<!-- end of table -->\n"
 # crates of examples and tests, and the definitions themselves
-LEFT_OUT = {"profile", "example_cases", "text_examples", "worked_examples", "folder_examples", "schedule_examples", "device_tests", "roombox"}
+LEFT_OUT = {"profile", "example_cases", "text_examples", "worked_examples", "command_examples", "schedule_examples", "device_tests", "roombox"}
 EXPORT = re.compile(r"^pub use (\w+)[\w:]*?::(?:\{([^}]*)\}|(\w+));", re.MULTILINE)
 DEFINED = re.compile(r"^ *(?:pub )?(?:abbrev|unfoldable|data|record)(?: pub)? ([^\s:({]+)", re.MULTILINE)
 SENTENCE = re.compile(r".+?[.?](?= |$)")

@@ -12,7 +12,7 @@ The second makes random calendars, some of which clash, and certificates by stra
 have groups; the checker has to say of each what is said here, and with worked_examples to make as many instances, or fewer beside singles. The third does for the streams in examples/
 what the first does for random rooms.
 
-The others print: the certificate of a calendar, by which the files `certificate-NAME` of worked_examples were made of `calendar-NAME`; the residues of its
+The others print: the certificate of a calendar, by which the files `certificate-NAME` of command_examples and worked_examples were made of `calendar-NAME`; the residues of its
 first series; what the checker says of a certificate, and how many instances it makes at the most.
 """
 
@@ -765,7 +765,7 @@ def counted_by(worked, calendar, certificate):
     """The same of worked_examples, and how many instances were made."""
     calendar, certificate = calendar.replace("\r\n", "\\r\\n"), certificate.replace("\n", "\\n")
     with tempfile.TemporaryDirectory() as folder:
-        for name in ("messages.txt", "commands.txt", "events.txt", "calendars.txt", "organisers.txt", "residues.txt"):
+        for name in ("messages.txt", "events.txt", "calendars.txt", "organisers.txt", "residues.txt"):
             Path(folder, name).write_text(f"a case | text | {calendar} | check {ROOM} {certificate}\n" if name == "messages.txt" else "")
         said = subprocess.run([Path(worked).resolve()], cwd=folder, stdin=subprocess.DEVNULL, capture_output=True, timeout=600).stdout.decode()
     verdict, made = re.fullmatch(r"a case: (.*), (\d+) made\n", said).groups()

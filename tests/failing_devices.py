@@ -16,7 +16,7 @@ from pathlib import Path
 
 from guide import R1, Cases, without_reason
 
-DATA = Path(__file__).resolve().parent.parent / "crates" / "worked_examples" / "data"
+DATA = Path(__file__).resolve().parent.parent / "crates" / "command_examples" / "data"
 # Each object with the file of its answer, None where there is none.
 STREAM = (
     ("request-a", "accepted-a"),

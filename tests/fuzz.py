@@ -168,7 +168,7 @@ class Corpus:
         for path in sorted((ROOT / "examples").iterdir()):
             if path.suffix in (".ics-stream", ".ics"):
                 self.add("stream" if path.suffix == ".ics-stream" else "object", path.read_bytes())
-        self.rows(ROOT / "crates" / "worked_examples" / "data")
+        self.rows(ROOT / "crates" / "command_examples" / "data")
         for table in sorted((ROOT / "crates").glob("*_examples/data/*.txt")):
             self.table(table)
         self.guide(program)

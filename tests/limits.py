@@ -16,7 +16,7 @@ from pathlib import Path
 
 from guide import PREAMBLE, R1, Cases, request, run, unfolded
 
-DATA = Path(__file__).resolve().parent.parent / "crates" / "worked_examples" / "data"
+DATA = Path(__file__).resolve().parent.parent / "crates" / "command_examples" / "data"
 # Objects that are cut short: a series in New York, what an organiser stores, and both with whole days; each with its preamble and what is answered to the
 # whole.
 CUT = (

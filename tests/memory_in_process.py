@@ -1,9 +1,9 @@
 """Refuses each allocation of calls in turn, and has the program itself make the same call again: what it holds has to be as it was, and the second call gives the answer.
 
-    python3 tests/memory_in_process.py bin/worked_examples [bin/folder_examples]
+    python3 tests/memory_in_process.py bin/worked_examples [bin/command_examples]
 
 The cases are lines of the tables of these programs: those that say `again` of a room and an organiser who take messages (worked_examples, src/again.rt), and
-those that say `runs` of a box over folders in memory (folder_examples, src/scene.rt). What has to come out stands in their `stdout`, with how many calls were
+those that say `runs` of a box over folders in memory (command_examples, src/scene.rt). What has to come out stands in their `stdout`, with how many calls were
 made: one more where one found no memory. An allocation that is refused elsewhere in the program, as where it reads a table, ends the case with `out of memory`.
 
 The refusing is done by the shim of tests/refused_memory.py. It prints for each case how many allocations of its calls were refused, and of the rest, and ends
@@ -21,8 +21,8 @@ from refused_memory import shim_in
 CRATES = Path(__file__).resolve().parent.parent / "crates"
 # A program's table, the word that its cases have, the other tables that it reads, and what is said of one call and of one more.
 TABLES = {
-    "worked_examples": ("messages.txt", "| again |", ("residues.txt", "commands.txt", "events.txt", "calendars.txt", "organisers.txt"), "0 again", "1 again"),
-    "folder_examples": ("folders.txt", "| runs |", (), "1 runs", "2 runs"),
+    "worked_examples": ("messages.txt", "| again |", ("residues.txt", "events.txt", "calendars.txt", "organisers.txt"), "0 again", "1 again"),
+    "command_examples": ("folders.txt", "| runs |", ("commands.txt",), "1 runs", "2 runs"),
 }
 # So many runs that answer all of it without one more call come after the last allocation.
 QUIET = 100

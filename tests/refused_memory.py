@@ -90,7 +90,7 @@ def meaning_of(program, number):
 
 
 def read(*names):
-    folder = os.path.join(os.path.dirname(__file__), "..", "crates", "worked_examples", "data")
+    folder = os.path.join(os.path.dirname(__file__), "..", "crates", "command_examples", "data")
     return b"".join(open(os.path.join(folder, name), "rb").read() for name in names)
 
 

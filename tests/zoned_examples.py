@@ -1,5 +1,5 @@
 #!/usr/bin/env python3
-"""Makes the cases of crates/worked_examples of times with TZID, nominal days, RDATE, EXDATE and RECURRENCE-ID, and those of whole days and of times
+"""Makes the cases of crates/command_examples of times with TZID, nominal days, RDATE, EXDATE and RECURRENCE-ID, and those of whole days and of times
 without zone in the zone of a room, which are in room_zone_cases.py: files `zone-*`, `placed-*` and
 `zoned-*` of its `data` (those without an ending), the lines of `commands.txt` from the line `# times in zones` to the next empty one, and the lines of
 `stdout` for all of `commands.txt`, which are there one after another. It is run by hand, in the top folder: `python3 tests/zoned_examples.py`.
@@ -13,7 +13,7 @@ import zoneinfo
 
 import room_zone_cases
 
-CRATE = pathlib.Path("crates/worked_examples")
+CRATE = pathlib.Path("crates/command_examples")
 DATA = CRATE / "data"
 TABLE = DATA / "commands.txt"
 MARK = "# times in zones"

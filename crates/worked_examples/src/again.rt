@@ -2,11 +2,11 @@
 //! all texts have to be as they were, and the same call is made once more. `rt ci` refuses none; tests/memory_in_process.py refuses each
 //! allocation of a case in turn.
 
-use crate::files::read_all;
 use crate::names::{ANN, ROOM};
 use cal_events::Method;
 use cal_zones::RoomZone;
 use example_cases::answers::{Answers, equality, none};
+use example_cases::files::read_all;
 use example_cases::spelled::escaped;
 use example_cases::{Case, NoAnswer};
 use ical_lines::{Fault, cut};

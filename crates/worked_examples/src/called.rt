@@ -1,10 +1,10 @@
 //! Cases of calls with objects of any METHOD: `called | FILES | CALLS` makes for each file one call with its object: `take` of the room, or `store`,
 //! `take_reply` or `take_refresh` of Ann. It says what came of each call, and whether what the two keep is still the same octets.
 
-use crate::files::read_all;
 use crate::names::{ANN, ROOM};
 use cal_zones::RoomZone;
 use example_cases::answers::Answers;
+use example_cases::files::read_all;
 use example_cases::{Case, NoAnswer};
 use ical_lines::Fault;
 use ical_values::{Address, Stamp};

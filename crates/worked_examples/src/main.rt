@@ -1,4 +1,4 @@
-//! Worked examples of messages, calendars, certificates, residues, the order of parts, streams, commands, events and organisers, in six tables. Each
+//! Worked examples of messages, calendars, certificates, residues, the order of parts, streams, events and organisers, in five tables. Each
 //! line of a table names a call and gives its input, often as names of files. What is printed of each case is compared by `rt ci` with the file
 //! `stdout`, whose lines come from the RFCs, by hand or from another program.
 #![tactic(auto)]
@@ -8,10 +8,8 @@ mod calendar_files;
 mod calendars;
 mod called;
 mod certificates;
-mod commands;
 mod counting;
 mod event_files;
-mod files;
 mod message_files;
 mod messages;
 mod names;
@@ -31,7 +29,6 @@ fn main(rt: HostRuntime) -> io::Result<()> {
     print_answers(&rt, "messages.txt")?;
     // by hand, and by tests/certificate_by_dateutil.py
     print_answers(&rt, "residues.txt")?;
-    print_commands(&rt)?;
     // made by tests/events_by_dateutil.py
     print_answers(&rt, "events.txt")?;
     // made by tests/calendars_by_icalendar.py
@@ -45,17 +42,6 @@ fn print_answers<R: Files + Print + AllocGlobal>(rt: &R, table: &str) -> io::Res
     for line in table.lines() {
         if let Some(case) = Case::of(line) {
             print_answer(rt, case, messages::answer(rt, case))?;
-        }
-    }
-    Ok(())
-}
-
-/// A case of a command has what must come out beside it, and says itself how it went.
-fn print_commands<R: Files + Print + AllocGlobal>(rt: &R) -> io::Result<()> {
-    let table = fs::read_to_string(rt, "commands.txt")?;
-    for line in table.lines() {
-        if let Some(case) = Case::of(line) {
-            commands::print(rt, case)?;
         }
     }
     Ok(())

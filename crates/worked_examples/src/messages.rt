@@ -1,7 +1,7 @@
 //! Cases of messages, calendars and certificates, of parts and of streams.
 
-use crate::files::read_all;
 use crate::{again, calendars, called, certificates, objects, organisers, parts, streams, written};
+use example_cases::files::read_all;
 use example_cases::{Case, NoAnswer};
 use std::rt::Files;
 

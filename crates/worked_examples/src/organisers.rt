@@ -5,10 +5,10 @@
 //!     large | VEVENTS ATTENDEES           how many octets she sends where she stores this many VEVENTs with this many attendees each, and what a box
 //!                                         answers where these are fed back
 
-use crate::files::read_all;
 use crate::names::ANN;
 use cal_events::{Method, PartStat};
 use example_cases::answers::{Answers, none};
+use example_cases::files::read_all;
 use example_cases::spelled::{escaped, octets_of};
 use example_cases::words::{count, first_word};
 use example_cases::{Case, NoAnswer};
