@@ -27,6 +27,8 @@ from repository import ROOT, RT, copied, crates_below, pairs_of
 
 FUNCTION = re.compile(r"^( *)(?:pub(?:\([^)]*\))? )?(?:const )?(?:unsafe )?fn (\w+)")
 IMPL = re.compile(r"^impl(?:<[^{]*?>)? (?:([\w:]+)(?:<.*>)? for )?&?(?:'\w+ )?(?:mut )?(\w+)")
+# a type of std that a trait of ours is written for: rt check spells it in one word, as VecU8
+OF_STD = re.compile(r"^impl (\w+) for (&\[u8\]|Vec<u8>)")
 VERDICT = re.compile(r"^fn (\S+): (.*)$", re.MULTILINE)
 # where rt check couldn't read a source
 ERROR_AT = re.compile(r"^(?:\./)?(src/\S+?\.rt):\d+:.* error", re.MULTILINE)
@@ -43,8 +45,10 @@ def function_at(crate, file, text, place):
     kind, found, is_body = "", None, False
     for line in text.split("\n")[: text[:place].count("\n") + 1]:
         if line.startswith("impl"):
-            match = IMPL.match(line)
+            match, of_std = IMPL.match(line), OF_STD.match(line)
             kind = match[2] + (match[1] or "").rpartition(":")[2] if match else "?"
+            if of_std:
+                kind = ("RefSliceU8" if of_std[2] == "&[u8]" else "VecU8") + of_std[1]
         elif line.startswith("}"):
             kind, found = "", None
         if match := FUNCTION.match(line):

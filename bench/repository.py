@@ -20,6 +20,14 @@ def crates_below():
     return dict(sorted(((name, below(name)) for name in used), key=lambda it: len(it[1])))
 
 
+def linked(source, target):
+    """Links a file, or copies it to another disk. `rt` puts a new file in the place of one that it kept, so the first one stays as it was."""
+    try:
+        os.link(source, target)
+    except OSError:
+        shutil.copy2(source, target)
+
+
 def copied(crate, below, room, kept="out"):
     """Copies a crate into an empty folder, with what its checks kept, and the built libraries below it; the other crates are only named."""
     for name in ("crates.txt", "HANDLES"):
@@ -29,7 +37,8 @@ def copied(crate, below, room, kept="out"):
         is_used = name in below[crate]
         for part in (*PARTS, kept if name == crate else "out/rlib") if is_used else ("src",):
             if (source / part).is_dir():
-                shutil.copytree(source / part, target / part)
+                is_made = part.startswith("out")
+                shutil.copytree(source / part, target / part, copy_function=linked if is_made else shutil.copy2)
             elif (source / part).is_file():
                 shutil.copy(source / part, target / part)
     return Path(room) / "crates" / crate
