@@ -3,3 +3,4 @@ pub mod CauseLemmas
 pub mod ObstacleLemmas
 pub mod PlaceLemmas
 pub mod RefusedLemmas
+pub mod TallyLemmas

@@ -47,7 +47,7 @@ pub record Unfolds (all left : List (List ℕ)) (content : List ℕ) (begun coun
   pub begins : begun ≡ length before + 1
   pub counted : count ≡ length before + (1 + length continued)
 
-pub first_line : (all left : List (List ℕ)) (line : List ℕ) → all ≡ line ∷ left → Unfolds all left line 1 1
+abbrev pub first_line : (all left : List (List ℕ)) (line : List ℕ) → all ≡ line ∷ left → Unfolds all left line 1 1
 first_line all left line e = record {
   before = [];
   line = line;
@@ -59,7 +59,7 @@ first_line all left line e = record {
   counted = refl;
 }
 
-pub continues : (all left : List (List ℕ)) (line content : List ℕ) (begun count : ℕ) → Unfolds all (line ∷ left) content begun count → is_continuation line ≡ true → Unfolds all left (content ++ drop 1 line) begun (count + 1)
+abbrev pub continues : (all left : List (List ℕ)) (line content : List ℕ) (begun count : ℕ) → Unfolds all (line ∷ left) content begun count → is_continuation line ≡ true → Unfolds all left (content ++ drop 1 line) begun (count + 1)
 continues all left line content begun count u e = record {
   before = u.before;
   line = u.line;
@@ -72,7 +72,7 @@ continues all left line content begun count u e = record {
   counted = omega (arith, u.counted, length-append u.continued (line ∷ []));
 }
 
-pub begins : (all left : List (List ℕ)) (line content : List ℕ) (begun count : ℕ) → Unfolds all (line ∷ left) content begun count → is_continuation line ≡ false → Unfolds all left line (count + 1) (count + 1)
+abbrev pub begins : (all left : List (List ℕ)) (line content : List ℕ) (begun count : ℕ) → Unfolds all (line ∷ left) content begun count → is_continuation line ≡ false → Unfolds all left line (count + 1) (count + 1)
 begins all left line content begun count u e =
     let all_before : List (List ℕ) = u.before ++ (u.line ∷ u.continued) in
     let many : length all_before ≡ length u.before + (1 + length u.continued) = length-append u.before (u.line ∷ u.continued) ∙ omega arith in
@@ -107,7 +107,7 @@ none_after (Some x) never = absurd (never x refl)
 
 -- ---- its place
 
-apart_by : (before : List (List ℕ)) (line : List ℕ) (more : List (List ℕ)) → (before ≡ []) ⊎ (is_continuation line ≡ false) → unfolded (before ++ (line ∷ more)) ≡ unfolded before ++ unfolded (line ∷ more)
+pub apart_by : (before : List (List ℕ)) (line : List ℕ) (more : List (List ℕ)) → (before ≡ []) ⊎ (is_continuation line ≡ false) → unfolded (before ++ (line ∷ more)) ≡ unfolded before ++ unfolded (line ∷ more)
 apart_by before line more (inl e) = subst (λ (b : List (List ℕ)). unfolded (b ++ (line ∷ more)) ≡ unfolded b ++ unfolded (line ∷ more)) (sym e) refl
 apart_by before line more (inr e) = unfolded_apart before line more e
 

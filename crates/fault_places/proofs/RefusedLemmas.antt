@@ -1,5 +1,5 @@
 -- The VTIMEZONE that an object is refused for.
-use Rattle.std.proofs.Common.{◌≡◌, ◌∙◌, ap, sym, subst, ℕ, suc, ◌<◌, true, List, ◌∷◌, arith}
+use Rattle.std.proofs.Common.{◌≡◌, ◌∙◌, ap, sym, subst, ℕ, suc, true, List, ◌∷◌, arith}
 use denote.Ref.{Bor}
 use Rattle.std.specs.Prelude.{Option, Some, option_map, Contains}
 use Rattle.ical_tree.specs.Tree.{tree_of}

@@ -1,12 +1,11 @@
 -- What a search through the content lines of an object has found.
-use Rattle.std.specs.Prelude.{◌≡◌, ◌<◌, ◌⊎◌, ◌||◌, ◌==◌, ℕ, Bool, true, IsTrue, List, [], length, codes, if◌then◌else◌}
+use Rattle.std.specs.Prelude.{◌≡◌, ◌<◌, ◌⊎◌, ◌==◌, ℕ, Bool, true, false, IsTrue, List, [], length, codes}
 use Rattle.profile.specs.text.Lines.{line_name, line_value, text_has}
 use Rattle.profile.specs.events.Properties.{is_of}
-use Rattle.fault_places.specs.Blame.{IsBlame}
+use Rattle.fault_places.specs.Blames.{BlamesHere}
 use Rattle.fault_places.specs.Places.{IsPlace}
 use Rattle.fault_places.specs.declared.blame.Blame as blame
 use Rattle.fault_places.specs.declared.blame.Blame.TheVariants as blames
-use Rattle.fault_places.specs.declared.blame.Within.{Within}
 use Rattle.fault_places.specs.declared.place.Found.{Found}
 use Rattle.fault_places.specs.declared.place.Found.TheVariants.{Nothing, Possible, Several, Certain}
 use Rattle.fault_places.specs.declared.place.Place.{Place}
@@ -17,35 +16,24 @@ use Rattle.fault_places.specs.declared.place.Sought.TheVariants.{Fault, Begin, T
 abbrev pub IsBeginOf : List ℕ → List ℕ → Type 0
 IsBeginOf name line = (is_of (codes "BEGIN") line ≡ true) × (line_value line ≡ name)
 
--- a line that is the one has it, another hasn't
-abbrev pub blame_if : Bool → blame.Blame
-blame_if is_sought = if is_sought then blames.Certain else blames.None
-
 -- where a line has it, this holds
 abbrev pub HoldsIfCertain : Type 0 → blame.Blame → Type 0
 HoldsIfCertain P blames.None = Unit {0}
 HoldsIfCertain P blames.Possible = ⊥
 HoldsIfCertain P blames.Certain = P
 
--- the numbers of faults of how BEGIN and END pair up that one line has: an END, a BEGIN, or any line
-abbrev pub is_pairing : ℕ → Bool
-is_pairing n = n == 20 || n == 22 || n == 23
-
-abbrev pub can_misfit : ℕ → List ℕ → Bool
-can_misfit n line =
-    if n == 20 then is_of (codes "END") line
-    else (if n == 22 then is_of (codes "BEGIN") line
-    else n == 23)
-
--- octets have this to do with what is sought: with the fault of a number, which they have as they are spelled, or as a content line of some
--- component, or as a line that needn't go with those before it; or they are the line that begins a component of a name, or the one of a text
+-- octets have this to do with what is sought: with the fault of a number, which they have as they are spelled, or as a content line where some
+-- components are open; or they are the line that begins a component of a name, or the one of a text
 abbrev pub IsBlamed : Sought → List ℕ → blame.Blame → Type 0
 IsBlamed (Fault n) content blamed =
-    ((blamed ≡ blames.Certain) × IsTrue (text_has true n content))
-    ⊎ (((within : Within) × IsBlame n within content blamed)
-    ⊎ (IsTrue (is_pairing n) × HoldsIfCertain (can_misfit n content ≡ true) blamed))
+    ((blamed ≡ blames.Certain) × IsTrue (text_has true n content)) ⊎ ((names : List (List ℕ)) × (begun : Bool) × BlamesHere n names begun content blamed)
 IsBlamed (Begin spot name) content blamed = HoldsIfCertain (IsBeginOf name.now content) blamed
 IsBlamed (Text spot text) content blamed = HoldsIfCertain (content ≡ text.now) blamed
+
+-- this is the number of the fault that is sought
+abbrev pub is_fault : Sought → ℕ → Bool
+is_fault (Fault n) number = n == number
+is_fault _ number = false
 
 -- the place is on this physical line and has this property
 abbrev pub IsAt : ℕ → List ℕ → Place → Type 0

@@ -4,6 +4,7 @@
 mod blame;
 mod event_flaw;
 mod obstacle;
+mod open_components;
 mod place;
 mod refused_zone;
 

@@ -2,12 +2,16 @@
 //! A place is given only where it is known: the content line has that fault by itself, or is the only one that can have it, or is the first that
 //! doesn't go with the components that are open. What is missing has no place, and what several lines have together has none.
 
-ghost use Rattle.std.specs.Prelude.{◌≡◌, ◌<◌, ◌^◌, ◌+◌, ◌++◌, ◌⊎◌, ℕ, List, length, drop, true, false, IfOk, IfSome, OnOk};
+ghost use Rattle.std.specs.Prelude.{◌≡◌, ◌<◌, ◌^◌, ◌+◌, ◌++◌, ◌∷◌, [], ◌⊎◌, ℕ, List, length, drop, true, false, None, IfOk, IfSome, OnOk};
 ghost use Rattle.ical_lines.specs.Text.{line_text};
-ghost use Rattle.profile.specs.text.Lines.{is_continuation, line_name};
-ghost use Rattle.fault_places.specs.Searching.{Finds, FoundIn, IsBeginOf, IsBlamed, IsBlamedPlace, NotesBlame, blame_if, can_misfit, is_pairing, with_possible};
+ghost use Rattle.profile.specs.text.Lines.{is_continuation, line_name, reads_as_lines};
+ghost use Rattle.fault_places.specs.Blames.{BlamesHere, IsUnknown, blame_if, is_pairing};
+ghost use Rattle.fault_places.specs.Nesting.{open_names};
+ghost use Rattle.fault_places.specs.Searching.{Finds, FoundIn, IsBeginOf, IsBlamed, IsBlamedPlace, NotesBlame, is_fault, with_possible};
+ghost use Rattle.fault_places.specs.Tally.{Tracks, filled, is_known};
 
-use crate::blame::{Blame, Within, blame_of};
+use crate::blame::{Blame, blame_of};
+use crate::open_components::OpenComponents;
 use ical_lines::{Fault, Limits, Line, Unfolded, split_line, without_mark};
 use std::alloc::{AllocError, Global};
 use std::str;
@@ -45,7 +49,8 @@ pub fn place_of(
     octets: &[u8],
     sought: Sought<'_>,
 ) -> Result<Option<Place>, AllocError>
-    ensures { IfOk result (λ found. IfSome found (λ place. IsBlamedPlace octets.now sought.entry place.line place.property.items)) }
+    ensures found { IfOk result (λ found. IfSome found (λ place. IsBlamedPlace octets.now sought.entry place.line place.property.items)) }
+    ensures unknown { IfOk result (λ found. found ≡ None → (n : ℕ) → sought.entry ≡ Sought.Fault n → IsUnknown octets.now n) }
 {
     let mut search = Search::new(alloc, sought);
     let (first, mut left) = split_line(without_mark(octets));
@@ -97,9 +102,11 @@ fn take_line(
     ensures count { OnOk result (begun.new.count ≡ begun.old.count + 1) }
     ensures sought { search.new.sought ≡ search.old.sought }
     ensures continues { OnOk result (is_continuation line.now ≡ true
-        → (search.new.found ≡ search.old.found) × (begun.new.content.items ≡ begun.old.content.items ++ drop 1 line.now) × (begun.new.line ≡ begun.old.line)) }
+        → (search.new ≡ search.old) × (begun.new.content.items ≡ begun.old.content.items ++ drop 1 line.now) × (begun.new.line ≡ begun.old.line)) }
     ensures begins { OnOk result (is_continuation line.now ≡ false
         → Finds search.old.sought search.old.found search.new.found begun.old.line begun.old.content.items × (begun.new.content.items ≡ line.now) × (begun.new.line ≡ begun.new.count)) }
+    ensures tracks { OnOk result (is_continuation line.now ≡ false → (n : ℕ) (lines : List (List ℕ)) → search.old.sought ≡ Sought.Fault n
+        → Tracks n lines search.old → Tracks n (lines ++ filled begun.old.content.items) search.new) }
 {
     begun.count += 1;
     if let [b' ' | b'\t', continued @ ..] = line {
@@ -117,24 +124,13 @@ fn take_line(
 #[derive(Drop)]
 struct Search<'a> {
     sought: Sought<'a>,
-    /// How many components have begun and not ended.
-    depth: u64,
-    /// The names of those, the innermost last.
-    open: Vec<Vec<u8>>,
-    /// A line was looked at before.
-    is_begun: bool,
-    /// What lines of the component at depth 2 are, and of its parts.
-    inside: Inside,
-    /// How many components have begun at depth 2.
-    outer: usize,
-    /// How many have begun at depth 3, inside the last of them.
-    inner: usize,
+    components: OpenComponents,
     found: Found,
 }
 
 /// Whether a number is that of the fault that is sought.
 fn is_fault(sought: Sought<'_>, number: u8) -> bool
-    ensures { result ≡ true → sought.entry ≡ Sought.Fault number }
+    ensures { result ≡ is_fault sought.entry number }
 {
     match sought {
         Sought::Fault(fault) => fault == number,
@@ -167,12 +163,19 @@ fn blame_if(is_sought: bool) -> Blame
     }
 }
 
-/// A component of an object.
-#[derive(Clone, Copy, PartialEq, Eq)]
-enum Inside {
-    Event,
-    Zone,
-    Other,
+/// What a line has to do with the fault of this number where these components are open.
+fn blame_fault(
+    alloc: Global,
+    components: &OpenComponents,
+    number: u8,
+    line: Line<'_>,
+) -> Result<Blame, AllocError>
+    ensures { IfOk result (BlamesHere number (open_names components.now) components.now.is_begun (line_text line.entry)) }
+{
+    if is_pairing(number) {
+        return Ok(blame_if(components.misfits(number, line)));
+    }
+    blame_of(alloc, number, components.within(), line)
 }
 
 /// What was found in the lines before.
@@ -191,15 +194,11 @@ impl<'a> Search<'a> {
     fn new(alloc: Global, sought: Sought<'a>) -> Search<'a>
         ensures found { result.found ≡ Found.Nothing }
         ensures sought { result.sought ≡ sought.entry }
+        ensures tracks { (n : ℕ) → Tracks n [] result }
     {
         Search {
             sought,
-            depth: 0,
-            open: Vec::new(alloc),
-            is_begun: false,
-            inside: Inside::Other,
-            outer: 0,
-            inner: 0,
+            components: OpenComponents::none(alloc),
             found: Found::Nothing,
         }
     }
@@ -208,25 +207,34 @@ impl<'a> Search<'a> {
     fn look_at(&mut self, alloc: Global, octets: &[u8], begun: u64) -> Result<(), AllocError>
         ensures found { OnOk result (Finds self.old.sought self.old.found self.new.found begun octets.now) }
         ensures sought { self.new.sought ≡ self.old.sought }
+        ensures tracks { OnOk result ((n : ℕ) (lines : List (List ℕ)) → self.old.sought ≡ Sought.Fault n
+            → Tracks n lines self.old → Tracks n (lines ++ filled octets.now) self.new) }
     {
-        if octets.is_empty() || matches!(self.found, Found::Certain(_)) {
+        if octets.is_empty() {
+            return Ok(());
+        }
+        if self.found.is_certain() {
             return Ok(());
         }
         match Unfolded::read(alloc, octets, Limits::Message) {
             Ok(_) => self.look_at_line(alloc, octets, begun),
             Err(Fault::Memory) => Err(AllocError),
-            Err(Fault::Refused(refusal)) if is_fault(self.sought, refusal.number) => {
-                self.note(alloc, Blame::Certain, b"", begun)
+            Err(Fault::Refused(refusal)) => {
+                let blame = blame_if(is_fault(self.sought, refusal.number));
+                self.note(alloc, blame, b"", begun)
             }
-            Err(Fault::Refused(_)) => Ok(()),
         }
     }
 
-    /// Looks at a content line that is read as one.
+    /// Looks at octets that are read by themselves.
     fn look_at_line(&mut self, alloc: Global, octets: &[u8], begun: u64) -> Result<(), AllocError>
-        requires { 0 < length octets.now }
+        requires filled { 0 < length octets.now }
+        requires unknown { is_known self.old.found ≡ false }
+        requires reads { reads_as_lines true octets.now ≡ true }
         ensures found { OnOk result (Finds self.old.sought self.old.found self.new.found begun octets.now) }
         ensures sought { self.new.sought ≡ self.old.sought }
+        ensures tracks { OnOk result ((n : ℕ) (lines : List (List ℕ)) → self.old.sought ≡ Sought.Fault n
+            → Tracks n lines self.old → Tracks n (lines ++ octets.now ∷ []) self.new) }
     {
         let Ok(text) = str::from_utf8(octets) else {
             return Ok(());
@@ -236,98 +244,25 @@ impl<'a> Search<'a> {
         };
         let blame = self.blame(alloc, line)?;
         self.note(alloc, blame, line.name().as_bytes(), begun)?;
-        self.pass(line);
-        self.pass_name(alloc, line)?;
-        Ok(())
+        self.components.pass(alloc, line)
     }
 
     /// What a line has to do with the one that is sought.
     fn blame(&self, alloc: Global, line: Line<'_>) -> Result<Blame, AllocError>
-        ensures { IfOk result (IsBlamed self.now.sought (line_text line.entry)) }
+        ensures blamed { IfOk result (IsBlamed self.now.sought (line_text line.entry)) }
+        ensures here { IfOk result (λ blamed. (n : ℕ) → self.now.sought ≡ Sought.Fault n
+            → BlamesHere n (open_names self.now.components) self.now.components.is_begun (line_text line.entry) blamed) }
     {
+        let components = &self.components;
         match self.sought {
-            Sought::Fault(number) => self.blame_fault(alloc, number, line),
-            Sought::Begin(spot, name) => Ok(blame_if(self.begins(spot) && is_begin(line, name))),
-            Sought::Text(spot, text) => Ok(blame_if(self.is_inside(spot) && line.text() == text)),
-        }
-    }
-
-    /// What a line has to do with the fault of this number.
-    fn blame_fault(&self, alloc: Global, number: u8, line: Line<'_>) -> Result<Blame, AllocError>
-        ensures { IfOk result (IsBlamed (Sought.Fault number) (line_text line.entry)) }
-    {
-        if is_pairing(number) {
-            return Ok(blame_if(self.misfits(number, line)));
-        }
-        blame_of(alloc, number, self.within(), line)
-    }
-
-    /// Whether a line doesn't go with the components that are open (RFC 5545 3.4, 3.6).
-    fn misfits(&self, number: u8, line: Line<'_>) -> bool
-        ensures { result ≡ true → can_misfit number (line_text line.entry) ≡ true }
-    {
-        match number {
-            20 => line.is_named("END") && !self.is_innermost(line.value()),
-            22 => line.is_named("BEGIN") && self.open.len() >= 8,
-            23 => !self.may_stand(line),
-            _ => false,
-        }
-    }
-
-    /// Whether the component that was begun last, and hasn't ended, has this name.
-    fn is_innermost(&self, name: &str) -> bool {
-        match self.open.last() {
-            Some(open) => open.as_slice().eq_ignore_ascii_case(name.as_bytes()),
-            None => false,
-        }
-    }
-
-    /// Whether a line may stand here: a VCALENDAR begins first of all, and all else is inside it.
-    fn may_stand(&self, line: Line<'_>) -> bool {
-        let is_calendar = line.is_named("BEGIN") && line.value().eq_ignore_ascii_case("VCALENDAR");
-        if self.open.is_empty() {
-            return is_calendar && !self.is_begun || line.is_named("END");
-        }
-        !is_calendar
-    }
-
-    /// Notes the name of a component that a line begins, and drops that of one that it ends.
-    fn pass_name(&mut self, alloc: Global, line: Line<'_>) -> Result<(), AllocError>
-        ensures found { self.new.found ≡ self.old.found }
-        ensures sought { self.new.sought ≡ self.old.sought }
-    {
-        self.is_begun = true;
-        if line.is_named("BEGIN") {
-            let mut name = Vec::new(alloc);
-            name.extend_from_slice(line.value().as_bytes())?;
-            self.open.push(name)?;
-        } else if line.is_named("END") {
-            self.open.pop();
-        }
-        Ok(())
-    }
-
-    /// Whether a component is the next that may begin.
-    fn begins(&self, spot: Spot) -> bool {
-        match spot.part {
-            None => self.depth == 1 && self.outer == spot.zone,
-            Some(part) => self.depth == 2 && self.is_after(spot.zone) && self.inner == part,
-        }
-    }
-
-    /// Whether a component is the innermost that has begun and not ended.
-    fn is_inside(&self, spot: Spot) -> bool {
-        match spot.part {
-            None => self.depth == 2 && self.is_after(spot.zone),
-            Some(part) => {
-                self.depth == 3 && self.is_after(spot.zone) && self.inner == part.saturating_add(1)
+            Sought::Fault(number) => blame_fault(alloc, components, number, line),
+            Sought::Begin(spot, name) => {
+                Ok(blame_if(components.begins(spot) && is_begin(line, name)))
+            }
+            Sought::Text(spot, text) => {
+                Ok(blame_if(components.is_inside(spot) && line.text() == text))
             }
         }
-    }
-
-    /// Whether that component is the last of those at depth 2.
-    fn is_after(&self, zone: usize) -> bool {
-        self.outer == zone.saturating_add(1)
     }
 
     /// Notes what a line has to do with the fault.
@@ -340,6 +275,7 @@ impl<'a> Search<'a> {
     ) -> Result<(), AllocError>
         ensures noted { OnOk result (NotesBlame self.old.found blame line property.now self.new.found) }
         ensures sought { self.new.sought ≡ self.old.sought }
+        ensures components { self.new.components ≡ self.old.components }
     {
         self.found = match blame {
             Blame::None => return Ok(()),
@@ -351,38 +287,16 @@ impl<'a> Search<'a> {
         };
         Ok(())
     }
-
-    /// Where the next line is.
-    fn within(&self) -> Within {
-        match (self.depth, self.inside) {
-            (1, _) => Within::Calendar,
-            (2, Inside::Event) => Within::Event,
-            (3, Inside::Zone) => Within::ZonePart,
-            _ => Within::Elsewhere,
-        }
-    }
-
-    /// Goes into the component that a line begins, and out of the one that it ends.
-    fn pass(&mut self, line: Line<'_>)
-        ensures found { self.new.found ≡ self.old.found }
-        ensures sought { self.new.sought ≡ self.old.sought }
-    {
-        if line.is_named("BEGIN") {
-            if self.depth == 1 {
-                self.inside = Inside::named(line.value());
-                self.outer = self.outer.saturating_add(1);
-                self.inner = 0;
-            } else if self.depth == 2 {
-                self.inner = self.inner.saturating_add(1);
-            }
-            self.depth = self.depth.saturating_add(1);
-        } else if line.is_named("END") {
-            self.depth = self.depth.saturating_sub(1);
-        }
-    }
 }
 
 impl Found {
+    /// Whether a line has it.
+    fn is_certain(&self) -> bool
+        ensures { result ≡ is_known self.now }
+    {
+        matches!(self, Found::Certain(_))
+    }
+
     /// With a line more that can have the fault.
     fn with_possible(&self, place: Place) -> Found
         ensures { result ≡ with_possible self.now place }
@@ -395,23 +309,12 @@ impl Found {
 
     /// The line that was found, if it is one.
     fn into_place(self) -> Option<Place>
-        ensures { IfSome result (λ place. (sought : Sought) (octets : List ℕ) → FoundIn sought octets self → IsBlamedPlace octets sought place.line place.property.items) }
+        ensures found { IfSome result (λ place. (sought : Sought) (octets : List ℕ) → FoundIn sought octets self → IsBlamedPlace octets sought place.line place.property.items) }
+        ensures none { result ≡ None → (self ≡ Found.Nothing) ⊎ (self ≡ Found.Several) }
     {
         match self {
             Found::Possible(place) | Found::Certain(place) => Some(place),
             Found::Nothing | Found::Several => None,
-        }
-    }
-}
-
-impl Inside {
-    fn named(name: &str) -> Inside {
-        if name.eq_ignore_ascii_case("VEVENT") {
-            Inside::Event
-        } else if name.eq_ignore_ascii_case("VTIMEZONE") {
-            Inside::Zone
-        } else {
-            Inside::Other
         }
     }
 }

@@ -2,12 +2,12 @@ use Rattle.std.proofs.Common.{◌≡◌, length}
 use Rattle.profile.specs.text.Lines.{physical_lines, without_mark}
 use Rattle.ical_lines.specs.Unfold.{lines_after}
 use Rattle.fault_places.specs.Searching.{FoundIn}
-use Rattle.fault_places.proofs.PlaceLemmas.{Unfolds}
+use Rattle.fault_places.proofs.TallyLemmas.{Walked}
 use Rattle.fault_places.proofs.place.place_of.Given as goal
 
 abbrev pub invariant-loop-left : goal.invariant-loop-left
 invariant-loop-left l = record {
-  unfolds : Unfolds (physical_lines (without_mark l.fn.octets)) (lines_after l.left) l.begun.content.items l.begun.line l.begun.count;
+  walked : Walked (physical_lines (without_mark l.fn.octets)) (lines_after l.left) l.begun.content.items l.begun.line l.begun.count l.search;
   found : FoundIn l.fn.sought l.fn.octets l.search.found;
   sought : l.search.sought ≡ l.fn.sought;
 }

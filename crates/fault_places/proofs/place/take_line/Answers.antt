@@ -1,5 +1,7 @@
-use Rattle.std.proofs.Common.{◌∙◌, ◌++◌, ap, refl, subst}
+use Rattle.std.proofs.Common.{◌≡◌, ◌∙◌, ◌++◌, List, ℕ, ap, refl, subst}
 use Rattle.fault_places.specs.Searching.{Finds}
+use Rattle.fault_places.specs.Tally.{Tracks, filled}
+use Rattle.fault_places.specs.declared.place.Sought.TheVariants.{Fault}
 use Rattle.fault_places.proofs.place.take_line.Goals as goal
 
 pub returns-clause-begins : goal.returns-clause-begins
@@ -8,3 +10,9 @@ returns-clause-begins c = λ e. (
   c.in_ok-extend_from_slice-2.ensures.items ∙ ap (λ z. z ++ c.args.line.now) c.clear.ensures.items,
   refl,
 )
+
+pub returns-clause-tracks : goal.returns-clause-tracks
+returns-clause-tracks c = λ e.
+    let old = c.args.search.now in
+    let new = c.look_at.new.self in
+    subst (λ text. (n : ℕ) (lines : List (List ℕ)) → old.sought ≡ Fault n → Tracks n lines old → Tracks n (lines ++ filled text) new) c.as_slice.ensures.value c.in_ok-look_at.ensures.tracks

@@ -15,6 +15,6 @@ returns c =
       part = c.in_ok-extend_from_slice.ensures.items ∙ ap (λ z. z ++ c.as_bytes.result.now) c.new-part.ensures.items ∙ c.as_bytes.ensures.value;
       spot = spot;
       property = c.in-Some.begins.property.items;
-      begins = subst (λ o. IfSome o (λ p. IsBlamedPlace octets (Begin spot found.name) p.line p.property.items)) c.in-Some.is c.in_ok-begins.ensures;
-      place = subst (λ o. IfSome o (λ p. IsBlamedPlace octets (sought_line spot found.name found.cause.line) p.line p.property.items)) c.in-Some-2.is (subst (λ s. IfSome c.in_ok-place.field-0 (λ p. IsBlamedPlace octets s p.line p.property.items)) c.sought_line.ensures c.in_ok-place.ensures);
+      begins = subst (λ o. IfSome o (λ p. IsBlamedPlace octets (Begin spot found.name) p.line p.property.items)) c.in-Some.is c.in_ok-begins.ensures.found;
+      place = subst (λ o. IfSome o (λ p. IsBlamedPlace octets (sought_line spot found.name found.cause.line) p.line p.property.items)) c.in-Some-2.is (subst (λ s. IfSome c.in_ok-place.field-0 (λ p. IsBlamedPlace octets s p.line p.property.items)) c.sought_line.ensures c.in_ok-place.ensures.found);
     }
