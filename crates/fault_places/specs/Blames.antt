@@ -3,10 +3,11 @@ use Rattle.std.specs.Prelude.{◌≡◌, ◌⊎◌, ◌||◌, ◌==◌, ℕ, Boo
 use Rattle.std.specs.Str.{IsUtf8}
 use Rattle.ical_lines.specs.Breaks.{is_one_line}
 use Rattle.profile.specs.faults.First.{is_number, text_fault}
-use Rattle.profile.specs.text.Lines.{logical_lines, reads_as_lines}
+use Rattle.profile.specs.text.Lines.{is_filled, logical_lines, reads_as_lines, unfolded}
 use Rattle.profile.specs.text.Objects.{misplaced, now_open}
 use Rattle.fault_places.specs.Blame.{IsBlame}
 use Rattle.fault_places.specs.Nesting.{within_of}
+use Rattle.fault_places.specs.Places.{IsPlace}
 use Rattle.fault_places.specs.declared.blame.Blame as blame
 use Rattle.fault_places.specs.declared.blame.Blame.TheVariants as blames
 
@@ -54,6 +55,30 @@ is_possible _ = false
 
 abbrev pub how_many : (blame.Blame → Bool) → List blame.Blame → ℕ
 how_many test blamed = length (filter test blamed)
+
+-- a content line on this physical line, of this property, has this to do with the fault behind those before it
+pub record IsBlamedAt (octets : List ℕ) (n : ℕ) (here : blame.Blame) (line : ℕ) (property : List ℕ) : Type 0 where
+  pub at : IsPlace octets line property
+  pub blamed : List blame.Blame
+  pub names : List (List ℕ)
+  pub begun : Bool
+  pub lines : AreBlamed n (filter is_filled (unfolded at.before) ++ at.content ∷ []) (blamed ++ here ∷ []) names begun
+  -- none before it has the fault by itself
+  pub first : how_many is_certain blamed ≡ 0
+
+-- one content line alone can have the fault, and none has it by itself
+pub record IsAlone (octets : List ℕ) (n : ℕ) : Type 0 where
+  pub blamed : List blame.Blame
+  pub names : List (List ℕ)
+  pub begun : Bool
+  pub lines : AreBlamed n (logical_lines octets) blamed names begun
+  pub none : how_many is_certain blamed ≡ 0
+  pub one : how_many is_possible blamed ≡ 1
+
+-- the content line on this physical line is the first that has the fault by itself, or alone can have it
+abbrev pub IsFaultPlace : List ℕ → ℕ → ℕ → List ℕ → Type 0
+IsFaultPlace octets n line property =
+    IsBlamedAt octets n blames.Certain line property ⊎ (IsBlamedAt octets n blames.Possible line property × IsAlone octets n)
 
 -- no content line has the fault by itself, and there isn't one alone that can have it
 pub record IsUnknown (octets : List ℕ) (n : ℕ) : Type 0 where

@@ -5,10 +5,10 @@
 ghost use Rattle.std.specs.Prelude.{◌≡◌, ◌<◌, ◌^◌, ◌+◌, ◌++◌, ◌∷◌, [], ◌⊎◌, ℕ, List, length, drop, true, false, None, IfOk, IfSome, OnOk};
 ghost use Rattle.ical_lines.specs.Text.{line_text};
 ghost use Rattle.profile.specs.text.Lines.{is_continuation, line_name, reads_as_lines};
-ghost use Rattle.fault_places.specs.Blames.{BlamesHere, IsUnknown, blame_if, is_pairing};
+ghost use Rattle.fault_places.specs.Blames.{BlamesHere, IsFaultPlace, IsUnknown, blame_if, is_pairing};
 ghost use Rattle.fault_places.specs.Nesting.{open_names};
 ghost use Rattle.fault_places.specs.Searching.{Finds, FoundIn, IsBeginOf, IsBlamed, IsBlamedPlace, NotesBlame, is_fault, with_possible};
-ghost use Rattle.fault_places.specs.Tally.{Tracks, filled, is_known};
+ghost use Rattle.fault_places.specs.Tally.{IsNoted, Tracks, filled, is_known};
 
 use crate::blame::{Blame, blame_of};
 use crate::open_components::OpenComponents;
@@ -50,6 +50,7 @@ pub fn place_of(
     sought: Sought<'_>,
 ) -> Result<Option<Place>, AllocError>
     ensures found { IfOk result (λ found. IfSome found (λ place. IsBlamedPlace octets.now sought.entry place.line place.property.items)) }
+    ensures fault { IfOk result (λ found. IfSome found (λ place. (n : ℕ) → sought.entry ≡ Sought.Fault n → IsFaultPlace octets.now n place.line place.property.items)) }
     ensures unknown { IfOk result (λ found. found ≡ None → (n : ℕ) → sought.entry ≡ Sought.Fault n → IsUnknown octets.now n) }
 {
     let mut search = Search::new(alloc, sought);
@@ -106,7 +107,8 @@ fn take_line(
     ensures begins { OnOk result (is_continuation line.now ≡ false
         → Finds search.old.sought search.old.found search.new.found begun.old.line begun.old.content.items × (begun.new.content.items ≡ line.now) × (begun.new.line ≡ begun.new.count)) }
     ensures tracks { OnOk result (is_continuation line.now ≡ false → (n : ℕ) (lines : List (List ℕ)) → search.old.sought ≡ Sought.Fault n
-        → Tracks n lines search.old → Tracks n (lines ++ filled begun.old.content.items) search.new) }
+        → Tracks n lines search.old
+        → Tracks n (lines ++ filled begun.old.content.items) search.new × IsNoted n lines begun.old.content.items begun.old.line search.old.found search.new.found) }
 {
     begun.count += 1;
     if let [b' ' | b'\t', continued @ ..] = line {
@@ -208,7 +210,7 @@ impl<'a> Search<'a> {
         ensures found { OnOk result (Finds self.old.sought self.old.found self.new.found begun octets.now) }
         ensures sought { self.new.sought ≡ self.old.sought }
         ensures tracks { OnOk result ((n : ℕ) (lines : List (List ℕ)) → self.old.sought ≡ Sought.Fault n
-            → Tracks n lines self.old → Tracks n (lines ++ filled octets.now) self.new) }
+            → Tracks n lines self.old → Tracks n (lines ++ filled octets.now) self.new × IsNoted n lines octets.now begun self.old.found self.new.found) }
     {
         if octets.is_empty() {
             return Ok(());
@@ -234,7 +236,7 @@ impl<'a> Search<'a> {
         ensures found { OnOk result (Finds self.old.sought self.old.found self.new.found begun octets.now) }
         ensures sought { self.new.sought ≡ self.old.sought }
         ensures tracks { OnOk result ((n : ℕ) (lines : List (List ℕ)) → self.old.sought ≡ Sought.Fault n
-            → Tracks n lines self.old → Tracks n (lines ++ octets.now ∷ []) self.new) }
+            → Tracks n lines self.old → Tracks n (lines ++ octets.now ∷ []) self.new × IsNoted n lines octets.now begun self.old.found self.new.found) }
     {
         let Ok(text) = str::from_utf8(octets) else {
             return Ok(());
@@ -310,6 +312,7 @@ impl Found {
     /// The line that was found, if it is one.
     fn into_place(self) -> Option<Place>
         ensures found { IfSome result (λ place. (sought : Sought) (octets : List ℕ) → FoundIn sought octets self → IsBlamedPlace octets sought place.line place.property.items) }
+        ensures some { IfSome result (λ place. (self ≡ Found.Possible place) ⊎ (self ≡ Found.Certain place)) }
         ensures none { result ≡ None → (self ≡ Found.Nothing) ⊎ (self ≡ Found.Several) }
     {
         match self {

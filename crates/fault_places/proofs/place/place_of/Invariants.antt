@@ -1,5 +1,4 @@
 use Rattle.std.proofs.Common.{◌≡◌, length}
-use Rattle.profile.specs.text.Lines.{physical_lines, without_mark}
 use Rattle.ical_lines.specs.Unfold.{lines_after}
 use Rattle.fault_places.specs.Searching.{FoundIn}
 use Rattle.fault_places.proofs.TallyLemmas.{Walked}
@@ -7,7 +6,7 @@ use Rattle.fault_places.proofs.place.place_of.Given as goal
 
 abbrev pub invariant-loop-left : goal.invariant-loop-left
 invariant-loop-left l = record {
-  walked : Walked (physical_lines (without_mark l.fn.octets)) (lines_after l.left) l.begun.content.items l.begun.line l.begun.count l.search;
+  walked : Walked l.fn.octets (lines_after l.left) l.begun.content.items l.begun.line l.begun.count l.search;
   found : FoundIn l.fn.sought l.fn.octets l.search.found;
   sought : l.search.sought ≡ l.fn.sought;
 }

@@ -1,7 +1,6 @@
-use Rattle.std.proofs.Common.{◌≡◌, ◌∙◌, ◌++◌, List, ℕ, ap, refl, subst}
+use Rattle.std.proofs.Common.{◌∙◌, ◌++◌, ap, refl, subst}
 use Rattle.fault_places.specs.Searching.{Finds}
-use Rattle.fault_places.specs.Tally.{Tracks, filled}
-use Rattle.fault_places.specs.declared.place.Sought.TheVariants.{Fault}
+use Rattle.fault_places.proofs.TallyLemmas.{Looks}
 use Rattle.fault_places.proofs.place.take_line.Goals as goal
 
 pub returns-clause-begins : goal.returns-clause-begins
@@ -12,7 +11,4 @@ returns-clause-begins c = λ e. (
 )
 
 pub returns-clause-tracks : goal.returns-clause-tracks
-returns-clause-tracks c = λ e.
-    let old = c.args.search.now in
-    let new = c.look_at.new.self in
-    subst (λ text. (n : ℕ) (lines : List (List ℕ)) → old.sought ≡ Fault n → Tracks n lines old → Tracks n (lines ++ filled text) new) c.as_slice.ensures.value c.in_ok-look_at.ensures.tracks
+returns-clause-tracks c = λ e. subst (λ text. Looks text c.args.begun.now.line c.args.search.now c.look_at.new.self) c.as_slice.ensures.value c.in_ok-look_at.ensures.tracks

@@ -7,7 +7,7 @@ use Rattle.fault_places.specs.Blames.{blame_if}
 use Rattle.fault_places.specs.Searching.{NotesBlame}
 use Rattle.fault_places.specs.Tally.{is_known}
 use Rattle.fault_places.proofs.PlaceLemmas.{on_ok}
-use Rattle.fault_places.proofs.TallyLemmas.{filled_some, found_refused, tracks_refused}
+use Rattle.fault_places.proofs.TallyLemmas.{filled_some, found_refused, looked_refused}
 use Rattle.fault_places.proofs.place.Search.look_at.Goals as goal
 use Rattle.fault_places.proofs.place.Search.look_at.Goals.{in-Ok, in-Err-Memory, in-Err-Refused}
 
@@ -40,5 +40,5 @@ returns-clause-tracks c =
           let first = subst (RefusesOnly (is_number (text_fault true octets))) w.in-Err-Refused.field-0-is w.in-Err-Refused.ensures.first in
           let noted = subst (λ b. OnOk w.note.result (NotesBlame old.found b c.args.begun [] w.note.new.self.found)) (w.blame_if-blame.ensures ∙ ap blame_if w.is_fault.ensures) w.note.ensures.noted in
           rw (w.result-is, w.self-is, filled_some octets some)
-          (on_ok w.note.result _ _ (λ is_noted n lines is. tracks_refused n lines octets number old.sought old w.note.new.self c.args.begun [] is unknown is_noted first w.note.ensures.components) noted)
+          (on_ok w.note.result _ _ (λ is_noted n lines is. looked_refused n lines octets number old.sought old w.note.new.self c.args.begun is unknown some is_noted first w.note.ensures.components) noted)
     ]
