@@ -30,8 +30,8 @@ IMPL = re.compile(r"^impl(?:<[^{]*?>)? (?:([\w:]+)(?:<.*>)? for )?&?(?:'\w+ )?(?
 # a type of std that a trait of ours is written for: rt check spells it in one word, as VecU8
 OF_STD = re.compile(r"^impl (\w+) for (&\[u8\]|Vec<u8>)")
 VERDICT = re.compile(r"^fn (\S+): (.*)$", re.MULTILINE)
-# where rt check couldn't read a source
-ERROR_AT = re.compile(r"^(?:\./)?(src/\S+?\.rt):\d+:.* error", re.MULTILINE)
+# where the front end couldn't read a source: the file, the line, and what is wrong there
+ERROR_AT = re.compile(r"^(?:\./)?(src/\S+?\.rt):(\d+):\d+: (error.*)$", re.MULTILINE)
 BY_A_CALL = re.compile(r"no proof: it calls .* not proved")
 # what a proof file says where an edit took away a name that it cites; such a refusal shows little
 BY_A_NAME = re.compile(r"has no field|is not in scope|has no `|was not admitted")
@@ -88,19 +88,41 @@ def rounds_of(edits):
     return rounds
 
 
-def checked(crate, below, edits):
-    """What rt check says of a copy of the crate with these edits, and whether it is proved."""
+def edited(crate, edits):
+    """The texts of the files with these edits, and the first edit whose old text isn't there once beside the others."""
+    texts = {}
+    for edit in edits:
+        for file, old, new in edit.pairs:
+            text = texts.get(file) or (ROOT / "crates" / crate / file).read_text(encoding="utf-8")
+            if text.count(old) != 1:
+                return texts, edit
+            texts[file] = text.replace(old, new)
+    return texts, None
+
+
+def checked(crate, below, texts):
+    """What rt check says of a copy of the crate with these texts, and whether it is proved."""
     with tempfile.TemporaryDirectory(prefix="attack-") as room:
         folder = copied(crate, below, room)
-        for edit in edits:
-            for file, old, new in edit.pairs:
-                text = (folder / file).read_text(encoding="utf-8")
-                if text.count(old) != 1:
-                    return "beside another edit an old text doesn't occur once", False
-                (folder / file).write_text(text.replace(old, new), encoding="utf-8")
+        for file, text in texts.items():
+            (folder / file).write_text(text, encoding="utf-8")
         how = {"stdin": subprocess.DEVNULL, "stdout": subprocess.PIPE, "stderr": subprocess.STDOUT, "errors": "replace"}
         ran = subprocess.run([RT, "check", "--jobs", "1"], cwd=folder, **how)
         return ran.stdout, ran.returncode == 0
+
+
+def misread(said, texts, edits):
+    """The edit at which, or next to which, the front end says that it can't read a source, and what it says."""
+    if not (found := ERROR_AT.search(said)):
+        return None, said[:200]
+    file, line, what = found[1], int(found[2]), found[3]
+
+    def distance(edit):
+        places = [(texts[file].find(new) if new else -1, new) for at, _, new in edit.pairs if at == file]
+        lines = [(texts[file][:at].count("\n") + 1, new.count("\n")) for at, new in places if at >= 0]
+        return min((max(first - line, line - first - more, 0) for first, more in lines), default=len(texts[file]))
+
+    return min((it for it in edits if any(at == file for at, _, _ in it.pairs)), key=distance, default=None), what
 
 
 def is_in(name, functions):
@@ -127,25 +149,22 @@ def refusal(said, functions):
 
 def tried(crate, below, edits):
     """Yields each edit of a round with what came of it: how it was refused, or why it was let through."""
-    said, is_proved = checked(crate, below, edits)
+    texts, unfit = edited(crate, edits)
+    if unfit and len(edits) > 1:
+        yield from tried(crate, below, [it for it in edits if it is not unfit])
+        yield from tried(crate, below, [unfit])
+        return
+    said, is_proved = checked(crate, below, texts)
     is_read = is_proved or "logic=not-proved" in said
-    if len(edits) == 1:
-        if is_proved:
-            yield edits[0], None, "the crate is still proved with it"
-        elif not is_read:
-            yield edits[0], None, "it didn't reach the prover: " + next((it for it in said.splitlines() if "error" in it), said[:200])
-        else:
-            how = refusal(said, edits[0].functions) or (refusal(said, None) and "by the goals of another function")
-            yield edits[0], how or "in a definition", ""
-    elif not is_read:
-        # one of them can't be read, or not beside the others: first those of the files that an error names
-        named = {*ERROR_AT.findall(said)}
-        is_named = lambda it: any(file in named for file, _, _ in it.pairs)
-        first, rest = [it for it in edits if is_named(it)], [it for it in edits if not is_named(it)]
-        if not first or not rest:
-            first, rest = edits[: len(edits) // 2], edits[len(edits) // 2 :]
-        yield from tried(crate, below, first)
-        yield from tried(crate, below, rest)
+    if not is_read:
+        wrong, what = misread(said, texts, edits)
+        wrong = wrong or edits[0]
+        yield wrong, None, f"it can't be compiled: {what}"
+        if rest := [it for it in edits if it is not wrong]:
+            yield from tried(crate, below, rest)
+    elif len(edits) == 1:
+        how = None if is_proved else refusal(said, edits[0].functions) or (refusal(said, None) and "by the goals of another function") or "in a definition"
+        yield edits[0], how, "" if how else "the crate is still proved with it"
     else:
         for edit in edits:
             how = refusal(said, edit.functions)
