@@ -115,23 +115,25 @@ apart_by before line more (inr e) = unfolded_apart before line more e
 abbrev pub IsPlaceOf : List ℕ → ℕ → List ℕ → List ℕ → Type 0
 IsPlaceOf octets line property content = (at : IsPlace octets line property) × (at.content ≡ content)
 
+-- of the one that has begun, behind those lines
+abbrev pub place_at : (octets : List ℕ) (left : List (List ℕ)) (content : List ℕ) (others : List (List ℕ)) (begun count : ℕ) (property : List ℕ) → Unfolds (physical_lines (without_mark octets)) left content begun count
+    → gather content left ≡ content ∷ others → 0 < length content → (property ≡ []) ⊎ (property ≡ line_name content) → IsPlace octets begun property
+place_at octets left content others begun count property u e some named = record {
+  before = u.before;
+  after = u.line ∷ (u.continued ++ left);
+  content = content;
+  others = others;
+  lines = u.are;
+  counted = u.begins;
+  apart = apart_by u.before u.line (u.continued ++ left) u.starts;
+  begins = u.gathered left ∙ e;
+  some = some;
+  named = named;
+}
+
 placed : (octets : List ℕ) (left : List (List ℕ)) (content : List ℕ) (others : List (List ℕ)) (begun count : ℕ) (property : List ℕ) → Unfolds (physical_lines (without_mark octets)) left content begun count
     → gather content left ≡ content ∷ others → 0 < length content → (property ≡ []) ⊎ (property ≡ line_name content) → IsPlaceOf octets begun property content
-placed octets left content others begun count property u e some named = (
-  record {
-    before = u.before;
-    after = u.line ∷ (u.continued ++ left);
-    content = content;
-    others = others;
-    lines = u.are;
-    counted = u.begins;
-    apart = apart_by u.before u.line (u.continued ++ left) u.starts;
-    begins = u.gathered left ∙ e;
-    some = some;
-    named = named;
-  },
-  refl,
-)
+placed octets left content others begun count property u e some named = (place_at octets left content others begun count property u e some named, refl)
 
 -- the same place, and what its line has to do with the fault
 blamed_at : (sought : Sought) (octets : List ℕ) (line : ℕ) (property content : List ℕ) (place : Place) (b : blame.Blame) → IsPlaceOf octets line property content → IsBlamed sought content b → IsAt line property place

@@ -20,7 +20,7 @@ use Rattle.fault_places.specs.declared.place.Place.{Place}
 use Rattle.fault_places.specs.declared.place.Search.{Search}
 use Rattle.fault_places.specs.declared.place.Sought.{Sought}
 use Rattle.fault_places.specs.declared.place.Sought.TheVariants.{Fault, Begin, Text}
-use Rattle.fault_places.proofs.PlaceLemmas.{Unfolds, apart_by, continues, begins, first_line}
+use Rattle.fault_places.proofs.PlaceLemmas.{Unfolds, apart_by, continues, begins, first_line, place_at}
 
 -- ---- one line more
 
@@ -133,22 +133,6 @@ through : (all left : List (List ℕ)) (content : List ℕ) (begun count : ℕ) 
 through all left content begun count u =
     let one : gather u.line u.continued ≡ content ∷ [] = ap (gather u.line) (sym (append-nil u.continued)) ∙ u.gathered [] in
     ap (filter is_filled) (apart_by u.before u.line u.continued u.starts ∙ ap (λ z. unfolded u.before ++ z) one) ∙ filter-append is_filled (unfolded u.before) (content ∷ [])
-
--- the place of the one that has begun, behind those lines
-abbrev place_at : (octets : List ℕ) (left : List (List ℕ)) (content : List ℕ) (others : List (List ℕ)) (begun count : ℕ) (property : List ℕ) → Unfolds (physical_lines (without_mark octets)) left content begun count
-    → gather content left ≡ content ∷ others → 0 < length content → (property ≡ []) ⊎ (property ≡ line_name content) → IsPlace octets begun property
-place_at octets left content others begun count property u e some named = record {
-  before = u.before;
-  after = u.line ∷ (u.continued ++ left);
-  content = content;
-  others = others;
-  lines = u.are;
-  counted = u.begins;
-  apart = apart_by u.before u.line (u.continued ++ left) u.starts;
-  begins = u.gathered left ∙ e;
-  some = some;
-  named = named;
-}
 
 noted_at : (octets : List ℕ) (n : ℕ) (b : blame.Blame) (left : List (List ℕ)) (content : List ℕ) (others : List (List ℕ)) (begun count : ℕ) (place : Place) (u : Unfolds (physical_lines (without_mark octets)) left content begun count)
     → gather content left ≡ content ∷ others → NotedAt n (filter is_filled (unfolded u.before)) content begun b place → IsBlamedAt octets n b place.line place.property.items

@@ -54,7 +54,7 @@ impl OpenComponents {
         number == Refusal::NOT_ONE_CALENDAR.number && self.names.is_empty()
     }
 
-    /// The same of a BEGIN of this name.
+    /// Whether a BEGIN of this name has that fault as the next line.
     fn misfits_begin(&self, number: u8, name: &str) -> bool
         ensures { result ≡ misplaced_begin number (open_names self.now) self.now.is_begun name.now }
     {
