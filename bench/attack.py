@@ -23,7 +23,7 @@ import tempfile
 from collections import namedtuple
 from concurrent.futures import ThreadPoolExecutor
 
-from repository import ROOT, RT, copied, crates_below, pairs_of
+from repository import QUICK_RT, ROOT, copied, crates_below, pairs_of
 
 FUNCTION = re.compile(r"^( *)(?:pub(?:\([^)]*\))? )?(?:const )?(?:unsafe )?fn (\w+)")
 IMPL = re.compile(r"^impl(?:<[^{]*?>)? (?:([\w:]+)(?:<.*>)? for )?&?(?:'\w+ )?(?:mut )?(\w+)")
@@ -107,7 +107,7 @@ def checked(crate, below, texts):
         for file, text in texts.items():
             (folder / file).write_text(text, encoding="utf-8")
         how = {"stdin": subprocess.DEVNULL, "stdout": subprocess.PIPE, "stderr": subprocess.STDOUT, "errors": "replace"}
-        ran = subprocess.run([RT, "check", "--jobs", "1"], cwd=folder, **how)
+        ran = subprocess.run([*QUICK_RT, "check", "--jobs", "1"], cwd=folder, **how)
         return ran.stdout, ran.returncode == 0
 
 
@@ -206,7 +206,7 @@ def main():
         if not read:
             continue
         print(f"{crate}: {len(read)} edits", flush=True)
-        if subprocess.run([RT, "check"], cwd=ROOT / "crates" / crate, stdin=subprocess.DEVNULL, stdout=subprocess.DEVNULL, stderr=subprocess.STDOUT).returncode:
+        if subprocess.run([*QUICK_RT, "check"], cwd=ROOT / "crates" / crate, stdin=subprocess.DEVNULL, stdout=subprocess.DEVNULL, stderr=subprocess.STDOUT).returncode:
             print(f"{crate} isn't proved without an edit: see rt check in its folder", file=sys.stderr)
             return 2
         rounds += [(crate, it) for it in rounds_of([edit for edit, why in read if not why])]

@@ -16,7 +16,7 @@ import tempfile
 from concurrent.futures import ThreadPoolExecutor
 from pathlib import Path
 
-from repository import ROOT, RT, copied, crates_below
+from repository import QUICK_RT, ROOT, copied, crates_below
 
 PROGRESS = re.compile(r"^checked (\S+), \d+ of ")
 
@@ -42,7 +42,7 @@ def timed(crate, below):
     with tempfile.TemporaryDirectory(prefix="dear-") as room:
         folder, last = copied(crate, below, room, kept="out/rlib"), 0.0
         how = {"stdin": subprocess.DEVNULL, "stdout": subprocess.PIPE, "stderr": subprocess.STDOUT, "text": True, "errors": "replace"}
-        with subprocess.Popen([RT, "check", "--jobs", "1"], cwd=folder, **how) as ran:
+        with subprocess.Popen([*QUICK_RT, "check", "--jobs", "1"], cwd=folder, **how) as ran:
             for line in ran.stdout:
                 if found := PROGRESS.match(line):
                     now = prover_seconds(folder.resolve())

@@ -16,7 +16,7 @@ import time
 from concurrent.futures import FIRST_COMPLETED, ThreadPoolExecutor, wait
 from pathlib import Path
 
-from repository import ROOT, RT, copied, crates_below
+from repository import QUICK_RT, ROOT, copied, crates_below
 
 LOGS = ROOT / "out" / "build"
 # what a job of a check may take, in octets
@@ -51,7 +51,7 @@ def proved(crate, below, jobs):
     """Proves and builds a library in a copy, and takes over what came of it; its status."""
     with tempfile.TemporaryDirectory(prefix="prove-") as room, open(LOGS / f"{crate}.log", "w", encoding="utf-8") as log:
         folder = copied(crate, below, room)
-        words = [RT, "lib", "--jobs", str(jobs)]
+        words = [*QUICK_RT, "lib", "--jobs", str(jobs)]
         status = subprocess.run(words, cwd=folder, stdin=subprocess.DEVNULL, stdout=log, stderr=subprocess.STDOUT).returncode
         # also of a crate that isn't proved: the next run begins with what is
         if (folder / "out").is_dir():

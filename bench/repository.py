@@ -2,10 +2,13 @@
 
 import os
 import shutil
+import sys
 from pathlib import Path
 
 ROOT = Path(__file__).resolve().parent.parent
 RT = os.environ.get("RT", "rt")
+# the same, which makes the sum of a crate's sources once
+QUICK_RT = (sys.executable, str(ROOT / "bench" / "quick_rt.py"))
 PARTS = ("src", "specs", "proofs", "data", "stdin", "stdout", "args", "status")
 
 
