@@ -8,13 +8,12 @@ use Rattle.profile.specs.events.Messages.{Message, SpellsMessage, MessageTextFau
 use Rattle.ical_tree.specs.Reading.{ObjectHas}
 use Rattle.cal_events.specs.Component.{method_said}
 use Rattle.itip_messages.specs.declared.message.Message as itip
+use Rattle.fault_places.specs.Blames.{IsFaultPlace, IsUnknown}
 use Rattle.fault_places.specs.EventFlaws.{IsFlawIn, flaw_text}
 use Rattle.sched_cli.specs.Explained.{meaning_of}
 use Rattle.fault_places.specs.InTheWay.{IsInTheWay}
 use Rattle.fault_places.specs.Obstacles.{words_of}
-use Rattle.fault_places.specs.Searching.{IsBlamedPlace}
 use Rattle.fault_places.specs.declared.event_flaw.PlacedFlaw.{PlacedFlaw}
-use Rattle.fault_places.specs.declared.place.Sought.TheVariants.{Fault}
 use Rattle.fault_places.specs.declared.refused_zone.InTheWay.{InTheWay}
 
 -- ---- an object that isn't refused
@@ -55,10 +54,11 @@ property_text (c ∷ cs) = codes ": " ++ (c ∷ cs)
 abbrev pub place_text : ℕ → List ℕ → List ℕ
 place_text line property = codes " at line " ++ (decimal line ++ property_text property)
 
--- where a fault is: nowhere, or where a content line of the octets begins that has the fault of this number by itself, or can have it
+-- where a fault is: at the first content line of the octets that has the fault of this number by itself, or at the one that alone can have it;
+-- where there is neither, nothing
 abbrev pub IsPlaceText : List ℕ → ℕ → List ℕ → Type 0
 IsPlaceText octets n text =
-    (text ≡ []) ⊎ ((line : ℕ) × (property : List ℕ) × IsBlamedPlace octets (Fault n) line property × (text ≡ place_text line property))
+    ((text ≡ []) × IsUnknown octets n) ⊎ ((line : ℕ) × (property : List ℕ) × IsFaultPlace octets n line property × (text ≡ place_text line property))
 
 -- what is in the way of a VTIMEZONE: the part that has it, the line on which that begins, and the words
 abbrev pub way_text : InTheWay → List ℕ
