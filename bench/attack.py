@@ -33,6 +33,8 @@ VERDICT = re.compile(r"^fn (\S+): (.*)$", re.MULTILINE)
 # where the front end couldn't read a source: the file, the line, and what is wrong there
 ERROR_AT = re.compile(r"^(?:\./)?(src/\S+?\.rt):(\d+):\d+: (error.*)$", re.MULTILINE)
 BY_A_CALL = re.compile(r"no proof: it calls .* not proved")
+# a goal that no proof text names
+UNPROVED = re.compile(r"^note: (?:\./)?(src/\S+?\.rt):(\d+):\d+: it is not proved ", re.MULTILINE)
 # what a proof file says where an edit took away a name that it cites; such a refusal shows little
 BY_A_NAME = re.compile(r"has no field|is not in scope|has no `|was not admitted")
 
@@ -135,6 +137,17 @@ def is_in(name, functions):
     return False
 
 
+def is_open(crate, said, functions, texts):
+    """Is a goal of one of these functions open for which no proof text was written? It is told at the function's head, or in its body."""
+    for file, line in UNPROVED.findall(said):
+        text = texts.get(file) or (ROOT / "crates" / crate / file).read_text(encoding="utf-8")
+        lines = text.split("\n")
+        starts = (sum(len(it) + 1 for it in lines[:at]) for at in range(int(line) - 1, min(int(line) + 30, len(lines))))
+        if next((it for it in (function_at(crate, file, text, at) for at in starts) if it), None) in functions:
+            return True
+    return False
+
+
 def refusal(said, functions):
     """How the goals of one of these functions refuse it; None where they don't. Of no functions: of any."""
     for name, verdict in VERDICT.findall(said):
@@ -145,6 +158,12 @@ def refusal(said, functions):
             is_named = errors and all(BY_A_NAME.search(it) for it in errors) and "did not prove" not in verdict
             return "by a name alone" if is_named else "by its goals"
     return None
+
+
+def judged(crate, said, edit, texts):
+    """How the goals of the functions of an edit refuse it; None where they don't."""
+    how = refusal(said, edit.functions)
+    return "by its goals" if how == "by a name alone" and is_open(crate, said, edit.functions or (), texts) else how
 
 
 def tried(crate, below, edits):
@@ -163,11 +182,11 @@ def tried(crate, below, edits):
         if rest := [it for it in edits if it is not wrong]:
             yield from tried(crate, below, rest)
     elif len(edits) == 1:
-        how = None if is_proved else refusal(said, edits[0].functions) or (refusal(said, None) and "by the goals of another function") or "in a definition"
+        how = None if is_proved else judged(crate, said, edits[0], texts) or (refusal(said, None) and "by the goals of another function") or "in a definition"
         yield edits[0], how, "" if how else "the crate is still proved with it"
     else:
         for edit in edits:
-            how = refusal(said, edit.functions)
+            how = judged(crate, said, edit, texts)
             yield from [(edit, how, "")] if how else tried(crate, below, [edit])
 
 
