@@ -132,7 +132,8 @@ def is_in(name, functions):
     for it in functions:
         above, _, own = it.rpartition("::")
         closure = f"::fn::{own}::" if it.startswith("::") else f"{above}::fn::{own}::"
-        if name.endswith(it) or closure in name:
+        # where a type has several, From is spelled with what it is from
+        if name.endswith(it) or closure in name or (it.endswith("From::from") and re.search(rf"{it[:-6]}\w+::from$", name)):
             return True
     return False
 
