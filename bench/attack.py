@@ -1,8 +1,10 @@
 """Tries planted edits: wrong programs, one small change each, that the prover must refuse.
 
-    python3 bench/attack.py [CRATE ..] [--since COMMIT] [--folder must-fail] [--lanes N]
+    python3 bench/attack.py [CRATE ..] [--since COMMIT] [--left] [--folder must-fail] [--lanes N]
 
-With no crate: all that have a folder planted/. --since takes the crates that changed since a commit, and those above them.
+With no crate: all that have a folder planted/. --since takes the crates that changed since a commit, and those above them. --left takes the
+edits that weren't refused yet with the sources as they are: bench/attacked.txt has, for each edit that was, how, and the sum of its text and of
+the sources, definitions and proofs of its crate and of all that it uses. So an attack may be cut off, and goes on where it was.
 
 The edits are in crates/NAME/planted/*.edit, in the form of must-fail/: a line `file: src/lib.rt`, then pairs of lines `old: TEXT` and
 `new: TEXT`, where the old text occurs once in the file; here a text may go on with the lines below it. `rt ci` tries those of must-fail/ one
@@ -14,6 +16,7 @@ The last line is `N refused, M let through`. The status is 0 where none was let 
 """
 
 import argparse
+import hashlib
 import os
 import re
 import resource
@@ -22,6 +25,7 @@ import sys
 import tempfile
 from collections import namedtuple
 from concurrent.futures import ThreadPoolExecutor
+from threading import Lock
 
 from repository import QUICK_RT, ROOT, copied, crates_below, pairs_of
 
@@ -37,6 +41,10 @@ BY_A_CALL = re.compile(r"no proof: it calls .* not proved")
 UNPROVED = re.compile(r"^note: (?:\./)?(src/\S+?\.rt):(\d+):\d+: it is not proved ", re.MULTILINE)
 # what a proof file says where an edit took away a name that it cites; such a refusal shows little
 BY_A_NAME = re.compile(r"has no field|is not in scope|has no `|was not admitted")
+
+# Which edits were refused: a line each with crate/name, the sum and how.
+LEDGER = ROOT / "bench" / "attacked.txt"
+AT_LEDGER = Lock()
 
 # An edit: its crate, its name, its (file, old, new), and the ends of the names of the functions that it changes; None where one isn't known.
 Edit = namedtuple("Edit", "crate name pairs functions")
@@ -191,9 +199,45 @@ def tried(crate, below, edits):
             yield from [(edit, how, "")] if how else tried(crate, below, [edit])
 
 
-def attack(crate, below, edits):
-    """Tries a round, and prints what came of it."""
+def sum_of(texts):
+    return hashlib.sha256("\0".join(texts).encode()).hexdigest()[:12]
+
+
+def sums_of(below):
+    """Of each crate the sum of its sources, definitions and proofs, and of those of all that it uses."""
+    own = {}
+    for crate in below:
+        files = sorted(it for part in ("src", "specs", "proofs") for it in (ROOT / "crates" / crate / part).rglob("*") if it.is_file())
+        own[crate] = sum_of(text for it in files for text in (str(it.relative_to(ROOT)), it.read_text(encoding="utf-8")))
+    return {crate: sum_of(own[it] for it in sorted(below[crate])) for crate in below}
+
+
+def edit_sum(edit, sums):
+    return sum_of([sums[edit.crate], *(text for pair in edit.pairs for text in pair)])
+
+
+def refused_before():
+    """The edits that were refused, with the sum and how."""
+    lines = LEDGER.read_text(encoding="utf-8").splitlines() if LEDGER.is_file() else []
+    return dict((it.split(" ")[0], it.split(" ", 2)[1:]) for it in lines)
+
+
+def note(results, sums):
+    """Notes which edits were refused; one that is gone, or was let through, has no line any more."""
+    with AT_LEDGER:
+        found = refused_before()
+        for edit, how, _ in results:
+            found.pop(f"{edit.crate}/{edit.name}", None)
+            if how:
+                found[f"{edit.crate}/{edit.name}"] = [edit_sum(edit, sums), how]
+        is_there = lambda it: (ROOT / "crates" / it.replace("/", "/planted/") ).with_suffix(".edit").is_file()
+        LEDGER.write_text("".join(f"{it} {' '.join(found[it])}\n" for it in sorted(found) if is_there(it)), encoding="utf-8")
+
+
+def attack(crate, below, edits, sums):
+    """Tries a round, prints what came of it, and notes it."""
     results = list(tried(crate, below, edits))
+    note(results, sums)
     for edit, how, why in results:
         if how != "by its goals":
             print(f"{crate}/{edit.name}: " + (f"refused {how}" if how else f"LET THROUGH: {why}"), flush=True)
@@ -212,6 +256,7 @@ def main():
     parser = argparse.ArgumentParser(description=__doc__.split("\n")[0])
     parser.add_argument("crates", nargs="*")
     parser.add_argument("--since", metavar="COMMIT")
+    parser.add_argument("--left", action="store_true", help="the edits that weren't refused yet with these sources")
     parser.add_argument("--folder", default="planted")
     parser.add_argument("--lanes", type=int, default=max(1, (os.cpu_count() or 1) // 2), help="rounds side by side, of up to 4 GB each")
     given = parser.parse_args()
@@ -219,10 +264,12 @@ def main():
     if unknown := {*given.crates} - {*below}:
         parser.error(f"no such crate: {' '.join(sorted(unknown))}")
     names = given.crates or (changed_since(given.since, below) if given.since else list(below))
-    rounds, bad = [], []
+    rounds, bad, sums, before = [], [], sums_of(below), refused_before() if given.left else {}
+    is_left = lambda it: before.get(f"{it.crate}/{it.name}", [None])[0] != edit_sum(it, sums)
     for crate in names:
         read = [read_edit(crate, it) for it in sorted((ROOT / "crates" / crate / given.folder).glob("*.edit"))]
         bad += [(edit, None, why) for edit, why in read if why]
+        read = [it for it in read if is_left(it[0])]
         if not read:
             continue
         print(f"{crate}: {len(read)} edits", flush=True)
@@ -231,7 +278,7 @@ def main():
             return 2
         rounds += [(crate, it) for it in rounds_of([edit for edit, why in read if not why])]
     with ThreadPoolExecutor(given.lanes) as lanes:
-        results = sum(lanes.map(lambda it: attack(it[0], below, it[1]), rounds), bad)
+        results = sum(lanes.map(lambda it: attack(it[0], below, it[1], sums), rounds), bad)
     through = [(edit, why) for edit, how, why in results if how is None]
     used = resource.getrusage(resource.RUSAGE_CHILDREN)
     print(f"{len(rounds)} rounds, {used.ru_utime + used.ru_stime:.0f} processor seconds with the check of what is proved")
