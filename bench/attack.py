@@ -230,7 +230,7 @@ def note(results, sums):
             found.pop(f"{edit.crate}/{edit.name}", None)
             if how:
                 found[f"{edit.crate}/{edit.name}"] = [edit_sum(edit, sums), how]
-        is_there = lambda it: (ROOT / "crates" / it.replace("/", "/planted/") ).with_suffix(".edit").is_file()
+        is_there = lambda it: (ROOT / "crates" / it.replace("/", "/planted/")).with_suffix(".edit").is_file()
         LEDGER.write_text("".join(f"{it} {' '.join(found[it])}\n" for it in sorted(found) if is_there(it)), encoding="utf-8")
 
 
