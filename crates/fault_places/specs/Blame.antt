@@ -9,7 +9,7 @@ use Rattle.profile.specs.series.RuleTexts.{SpellsRule, IsLeastRuleFault}
 use Rattle.profile.specs.series.Rules as rules
 use Rattle.profile.specs.text.Lines.{is_same_name, line_name, line_param, line_value}
 use Rattle.profile.specs.text.Trees.{Tree}
-use Rattle.profile.specs.text.Values.{IsAddress, IsUid, SpellsDuration, SpellsLocal, SpellsOffset, SpellsSequence, SpellsStamp, unescaped}
+use Rattle.profile.specs.text.Values.{IsAddress, IsUid, SpellsDuration, SpellsLocal, SpellsLong, SpellsNegative, SpellsOffset, SpellsSequence, SpellsStamp, unescaped}
 use Rattle.fault_places.specs.declared.blame.Blame as blame
 use Rattle.fault_places.specs.declared.blame.Blame.TheVariants as blames
 use Rattle.fault_places.specs.declared.blame.ZoneProperty.{ZoneProperty}
@@ -58,7 +58,9 @@ IsWrong (Some ORGANIZER) line n = IsTrue (is_address_fault n) × (IsAddress (lin
 IsWrong (Some ATTENDEE) line n = IsTrue (is_address_fault n) × (IsAddress (line_value line) → ⊥)
 IsWrong (Some DTSTAMP) line n = (n ≡ 10) × ((instant : ℤ) → SpellsStamp (line_value line) instant → ⊥)
 IsWrong (Some SEQUENCE) line n = (n ≡ 16) × ((count : ℕ) → SpellsSequence (line_value line) count → ⊥)
-IsWrong (Some DURATION) line n = (n ≡ 51) ⊎ ((n ≡ 12) × ((days seconds : ℕ) → SpellsDuration (line_value line) days seconds → ⊥))
+IsWrong (Some DURATION) line n =
+    ((n ≡ 12) × ((days seconds : ℕ) → SpellsDuration (line_value line) days seconds → ⊥))
+    ⊎ ((n ≡ 51) × (SpellsNegative (line_value line) ⊎ SpellsLong (line_value line)))
 IsWrong (Some RRULE) line n = IsLeastRuleFault (line_value line) n
 IsWrong (Some RECURRENCE-ID) line n =
     ((n ≡ 65) × (is_some (line_param (codes "RANGE") line) ≡ true)) ⊎ IsWrongTime line (line_value line) n

@@ -1,7 +1,7 @@
-use Rattle.std.proofs.Common.{Some, ap, inl, inr, subst, sym}
+use Rattle.std.proofs.Common.{◌⊎◌, Some, ap, inl, inr, subst, sym}
 use Rattle.std.proofs.lemmas.Result.{err_from_is_err_and}
 use Rattle.ical_lines.specs.Text.{line_text}
-use Rattle.profile.specs.text.Values.{SpellsDuration, SpellsSequence, SpellsStamp}
+use Rattle.profile.specs.text.Values.{SpellsDuration, SpellsLong, SpellsNegative, SpellsSequence, SpellsStamp}
 use Rattle.cal_events.specs.Forms.{IsReadable}
 use Rattle.cal_events.specs.Property.{property_said}
 use Rattle.fault_places.specs.Blame.{IsRight, IsWrong}
@@ -30,8 +30,8 @@ returns-in_err-read-in-Duration-clause-fault c =
     rw (p.1, p.2)
     (subst (λ x. IsWrong x (line_text c.args.line) c.in_err-read-in-Duration.field-0.0.number) (ap (λ p. Some (property_said p)) (sym c.in-Duration.is))
     (elim wrong.refuses [
-      | inl malformed ↦ inr (malformed, λ days seconds says. wrong.none malformed days seconds (subst (λ v. SpellsDuration v days seconds) (sym c.value-value.ensures) says))
-      | inr long ↦ inl long
+      | inl malformed ↦ inl (malformed, λ days seconds says. wrong.none malformed days seconds (subst (λ v. SpellsDuration v days seconds) (sym c.value-value.ensures) says))
+      | inr long ↦ inr (long, subst (λ v. SpellsNegative v ⊎ SpellsLong v) c.value-value.ensures (wrong.range long))
     ]))
 
 pub returns-in_ok-judge_time-in-Dtstart-clause-sound : goal.returns-in_ok-judge_time-in-Dtstart-clause-sound
