@@ -1,6 +1,6 @@
 """Tries planted edits: wrong programs, one small change each, that the prover must refuse.
 
-    python3 bench/attack.py [CRATE ..] [--since COMMIT] [--left] [--folder must-fail] [--lanes N]
+    python3 bench/attack.py [CRATE ..] [--since COMMIT] [--left] [--folder must-fail] [--lanes N] [--at-most N]
 
 With no crate: all that have a folder planted/. --since takes the crates that changed since a commit, and those above them. --left takes the
 edits that weren't refused yet with the sources as they are: bench/attacked.txt has, for each edit that was, how, and the sum of its text and of
@@ -8,14 +8,17 @@ the sources, definitions and proofs of its crate and of all that it uses. So an 
 
 The edits are in crates/NAME/planted/*.edit, in the form of must-fail/: a line `file: src/lib.rt`, then pairs of lines `old: TEXT` and
 `new: TEXT`, where the old text occurs once in the file; here a text may go on with the lines below it. `rt ci` tries those of must-fail/ one
-by one; these are tried in rounds, for a fifth of the time or less. A round is one `rt check --jobs 1` of a fresh copy of the proved crate with edits of different functions in it. Each
-edit is judged by the goals of its own function: a function that fails only because it calls another one doesn't count. What is outside
-src/, or in no function's body, is tried alone, and so is each edit that its round didn't refuse. An edit is let through where the crate is
-still proved with it alone; one that can't be applied or read shows nothing, and counts as let through.
+by one; these are tried in rounds, for a fifth of the time or less. A round is one `rt check --jobs 1` of a fresh copy of the proved crate with edits of different functions in it,
+at most 24 (--at-most): with more of them a check takes more memory than that of the crate itself, and what is cut off is lost. A round looks at these
+functions only (--only), not at those that call them. Each edit is judged by the goals of its own function: a function that fails only because it
+calls another one doesn't count. What is outside src/, or in no function's body, is tried alone, by the functions of its modules, and so is each
+edit that its round didn't refuse; what these don't refuse is tried by a check of the whole crate. An edit is let through where the crate is still
+proved with it alone; one that can't be applied or read shows nothing, and counts as let through.
 The last line is `N refused, M let through`. The status is 0 where none was let through, 1 where one was, 2 where nothing could be tried.
 """
 
 import argparse
+import fcntl
 import hashlib
 import os
 import re
@@ -25,7 +28,6 @@ import sys
 import tempfile
 from collections import namedtuple
 from concurrent.futures import ThreadPoolExecutor
-from threading import Lock
 
 from repository import QUICK_RT, ROOT, copied, crates_below, pairs_of
 
@@ -37,6 +39,8 @@ VERDICT = re.compile(r"^fn (\S+): (.*)$", re.MULTILINE)
 # where the front end couldn't read a source: the file, the line, and what is wrong there
 ERROR_AT = re.compile(r"^(?:\./)?(src/\S+?\.rt):(\d+):\d+: (error.*)$", re.MULTILINE)
 BY_A_CALL = re.compile(r"no proof: it calls .* not proved")
+# a function or module that --only names and the crate hasn't, or has several times
+UNFIT_PATH = re.compile(r"^rattle: error: .*", re.MULTILINE)
 # a goal that no proof text names
 UNPROVED = re.compile(r"^note: (?:\./)?(src/\S+?\.rt):(\d+):\d+: it is not proved ", re.MULTILINE)
 # what a proof file says where an edit took away a name that it cites; such a refusal shows little
@@ -44,7 +48,6 @@ BY_A_NAME = re.compile(r"has no field|is not in scope|has no `|was not admitted"
 
 # Which edits were refused: a line each with crate/name, the sum and how.
 LEDGER = ROOT / "bench" / "attacked.txt"
-AT_LEDGER = Lock()
 
 # An edit: its crate, its name, its (file, old, new), and the ends of the names of the functions that it changes; None where one isn't known.
 Edit = namedtuple("Edit", "crate name pairs functions")
@@ -88,11 +91,11 @@ def read_edit(crate, path):
     return Edit(crate, path.stem, pairs, None if None in functions else frozenset(functions)), wrong if pairs else "it has no pair"
 
 
-def rounds_of(edits):
-    """Edits of different functions together; those of no known function alone."""
+def rounds_of(edits, most):
+    """Edits of different functions together, so many at most; those of no known function alone."""
     rounds = []
     for edit in edits:
-        fits = lambda it: all(other.functions and not other.functions & edit.functions for other in it)
+        fits = lambda it: len(it) < most and all(other.functions and not other.functions & edit.functions for other in it)
         room = next((it for it in rounds if edit.functions and fits(it)), None)
         rounds.append([edit]) if room is None else room.append(edit)
     return rounds
@@ -110,14 +113,29 @@ def edited(crate, edits):
     return texts, None
 
 
-def checked(crate, below, texts):
-    """What rt check says of a copy of the crate with these texts, and whether it is proved."""
+def paths_of(crate, edit):
+    """The names, as --only takes them, of the functions of an edit or, where these aren't known, of the modules of its files; none where that isn't known."""
+    if edit.functions:
+        return {it[2:] if it.startswith("::") else it.partition("::")[2] for it in edit.functions}
+    found = set()
+    for file, _, _ in edit.pairs:
+        part, _, path = file.partition("/")
+        module = path.rpartition(".")[0] if part == "src" else re.sub(r"(?<=[a-z])([A-Z])", r"_\1", path.rpartition(".")[0]).lower() if part == "specs" else None
+        if module and (module in ("lib", "main") or not (ROOT / "crates" / crate / "src" / f"{module}.rt").is_file()):
+            return set()
+        found |= {module.replace("/", "::")} if module else set()
+    return found
+
+
+def checked(crate, below, texts, paths):
+    """What rt check says of a copy of the crate with these texts, of these functions and modules or, of none, of all; and whether that is proved."""
     with tempfile.TemporaryDirectory(prefix="attack-") as room:
         folder = copied(crate, below, room)
         for file, text in texts.items():
             (folder / file).write_text(text, encoding="utf-8")
         how = {"stdin": subprocess.DEVNULL, "stdout": subprocess.PIPE, "stderr": subprocess.STDOUT, "errors": "replace"}
-        ran = subprocess.run([*QUICK_RT, "check", "--jobs", "1"], cwd=folder, **how)
+        only = [word for it in sorted(paths) for word in ("--only", it)]
+        ran = subprocess.run([*QUICK_RT, "check", "--jobs", "1", *only], cwd=folder, **how)
         return ran.stdout, ran.returncode == 0
 
 
@@ -175,21 +193,32 @@ def judged(crate, said, edit, texts):
     return "by its goals" if how == "by a name alone" and is_open(crate, said, edit.functions or (), texts) else how
 
 
-def tried(crate, below, edits):
+def tried(crate, below, edits, is_whole=False):
     """Yields each edit of a round with what came of it: how it was refused, or why it was let through."""
     texts, unfit = edited(crate, edits)
+    paths = [set() if is_whole else paths_of(crate, it) for it in edits]
+    only = set().union(*paths) if all(paths) else set()
     if unfit and len(edits) > 1:
         yield from tried(crate, below, [it for it in edits if it is not unfit])
         yield from tried(crate, below, [unfit])
         return
-    said, is_proved = checked(crate, below, texts)
-    is_read = is_proved or "logic=not-proved" in said
-    if not is_read:
+    said, is_proved = checked(crate, below, texts, only)
+    is_read = is_proved or "logic=not-proved" in said or "\nonly=" in said
+    no_path = [] if is_read else [edit for edit, named in zip(edits, paths) if any(f"`{it}`" in line for line in UNFIT_PATH.findall(said) for it in named)]
+    if no_path:
+        for edit in no_path:
+            yield from tried(crate, below, [edit], True)
+        if rest := [it for it in edits if it not in no_path]:
+            yield from tried(crate, below, rest)
+    elif not is_read:
         wrong, what = misread(said, texts, edits)
         wrong = wrong or edits[0]
         yield wrong, None, f"it can't be compiled: {what}"
         if rest := [it for it in edits if it is not wrong]:
             yield from tried(crate, below, rest)
+    elif len(edits) == 1 and only:
+        how = None if is_proved else judged(crate, said, edits[0], texts)
+        yield from [(edits[0], how, "")] if how == "by its goals" else tried(crate, below, edits, True)
     elif len(edits) == 1:
         how = None if is_proved else judged(crate, said, edits[0], texts) or (refusal(said, None) and "by the goals of another function") or "in a definition"
         yield edits[0], how, "" if how else "the crate is still proved with it"
@@ -223,8 +252,9 @@ def refused_before():
 
 
 def note(results, sums):
-    """Notes which edits were refused; one that is gone, or was let through, has no line any more."""
-    with AT_LEDGER:
+    """Notes which edits were refused; one that is gone, or was let through, has no line any more. Attacks on several crates may run side by side."""
+    with open(LEDGER, "a", encoding="utf-8") as ledger:
+        fcntl.flock(ledger, fcntl.LOCK_EX)
         found = refused_before()
         for edit, how, _ in results:
             found.pop(f"{edit.crate}/{edit.name}", None)
@@ -259,6 +289,7 @@ def main():
     parser.add_argument("--left", action="store_true", help="the edits that weren't refused yet with these sources")
     parser.add_argument("--folder", default="planted")
     parser.add_argument("--lanes", type=int, default=max(1, (os.cpu_count() or 1) // 2), help="rounds side by side, of up to 4 GB each")
+    parser.add_argument("--at-most", type=int, default=24, metavar="N", help="edits of a round")
     given = parser.parse_args()
     below = crates_below()
     if unknown := {*given.crates} - {*below}:
@@ -276,7 +307,7 @@ def main():
         if subprocess.run([*QUICK_RT, "check"], cwd=ROOT / "crates" / crate, stdin=subprocess.DEVNULL, stdout=subprocess.DEVNULL, stderr=subprocess.STDOUT).returncode:
             print(f"{crate} isn't proved without an edit: see rt check in its folder", file=sys.stderr)
             return 2
-        rounds += [(crate, it) for it in rounds_of([edit for edit, why in read if not why])]
+        rounds += [(crate, it) for it in rounds_of([edit for edit, why in read if not why], given.at_most)]
     with ThreadPoolExecutor(given.lanes) as lanes:
         results = sum(lanes.map(lambda it: attack(it[0], below, it[1], sums), rounds), bad)
     through = [(edit, why) for edit, how, why in results if how is None]

@@ -73,7 +73,8 @@ def main():
     with ThreadPoolExecutor(count) as pool:
         while left or running:
             busy = {name for name, _ in running.values()}
-            ready = [it for it in left if not (below[it] - {it}) & {*left, *busy}]
+            # first what most others wait for
+            ready = sorted((it for it in left if not (below[it] - {it}) & {*left, *busy}), key=lambda it: -sum(it in below[other] for other in left))
             for place, name in enumerate(ready):
                 idle = room - sum(jobs for _, jobs in running.values())
                 if idle > 0:
