@@ -45,6 +45,8 @@ UNFIT_PATH = re.compile(r"^rattle: error: .*", re.MULTILINE)
 UNPROVED = re.compile(r"^note: (?:\./)?(src/\S+?\.rt):(\d+):\d+: it is not proved ", re.MULTILINE)
 # what a proof file says where an edit took away a name that it cites; such a refusal shows little
 BY_A_NAME = re.compile(r"has no field|is not in scope|has no `|was not admitted")
+# a lemma that isn't proved any more, and so what cites it isn't
+OF_A_LEMMA = re.compile(r"depends? on `([^`]+)`, which was not admitted")
 
 # Which edits were refused: a line each with crate/name, the sum and how.
 LEDGER = ROOT / "bench" / "attacked.txt"
@@ -175,6 +177,14 @@ def is_open(crate, said, functions, texts):
     return False
 
 
+def is_by_name(said, error):
+    """Is an error about a name alone? If it is about a lemma that isn't proved any more, the errors of that lemma decide."""
+    if lemma := OF_A_LEMMA.search(error):
+        own = re.findall(rf"^(?:\./)?proofs/\S+: error: (`{re.escape(lemma[1])}`: .*(?:\n[ \t].*)*)$", said, re.MULTILINE)
+        return all(BY_A_NAME.search(it) for it in own)
+    return bool(BY_A_NAME.search(error))
+
+
 def refusal(said, functions):
     """How the goals of one of these functions refuse it; None where they don't. Of no functions: of any."""
     for name, verdict in VERDICT.findall(said):
@@ -182,7 +192,7 @@ def refusal(said, functions):
             at = re.escape("proofs/" + "/".join(name.split("::")[1:]) + "/")
             # what is wrong may be on the indented lines below
             errors = re.findall(rf"^(?:\./)?{at}\S+: error: (.*(?:\n[ \t].*)*)$", said, re.MULTILINE)
-            is_named = errors and all(BY_A_NAME.search(it) for it in errors) and "did not prove" not in verdict
+            is_named = errors and all(is_by_name(said, it) for it in errors) and "did not prove" not in verdict
             return "by a name alone" if is_named else "by its goals"
     return None
 
