@@ -8,12 +8,12 @@ the sources, definitions and proofs of its crate and of all that it uses. So an 
 
 The edits are in crates/NAME/planted/*.edit, in the form of must-fail/: a line `file: src/lib.rt`, then pairs of lines `old: TEXT` and
 `new: TEXT`, where the old text occurs once in the file; here a text may go on with the lines below it. `rt ci` tries those of must-fail/ one
-by one; these are tried in rounds, for a fifth of the time or less. A round is one `rt check --jobs 1` of a fresh copy of the proved crate with edits of different functions in it,
-at most 24 (--at-most): with more of them a check takes more memory than that of the crate itself, and what is cut off is lost. A round looks at these
-functions only (--only), not at those that call them. Each edit is judged by the goals of its own function: a function that fails only because it
-calls another one doesn't count. What is outside src/, or in no function's body, is tried alone, by the functions of its modules, and so is each
-edit that its round didn't refuse; what these don't refuse is tried by a check of the whole crate. An edit is let through where the crate is still
-proved with it alone; one that can't be applied or read shows nothing, and counts as let through.
+by one; these are tried in rounds, for a fifth of the time or less. A round is one `rt check --jobs 1` of a fresh copy of the proved crate with edits
+of different functions in it, at most 24 (--at-most): with more of them a check takes more memory than that of the crate itself, and what is cut off is
+lost. A round looks at these functions only (--only), not at those that call them. Each edit is judged by the goals of its own function: a function that
+fails only because it calls another one doesn't count. What is outside src/, or in no function's body, is tried alone, by the functions of its modules,
+and so is each edit that its round didn't refuse; what these don't refuse is tried by a check of the whole crate. An edit is let through where the crate
+is still proved with it alone; one that can't be applied or read shows nothing, and counts as let through.
 The last line is `N refused, M let through`. The status is 0 where none was let through, 1 where one was, 2 where nothing could be tried.
 """
 
@@ -46,7 +46,9 @@ UNPROVED = re.compile(r"^note: (?:\./)?(src/\S+?\.rt):(\d+):\d+: it is not prove
 # what a proof file says where an edit took away a name that it cites; such a refusal shows little
 BY_A_NAME = re.compile(r"has no field|is not in scope|has no `|was not admitted")
 # a lemma that isn't proved any more, and so what cites it isn't
-OF_A_LEMMA = re.compile(r"depends? on `([^`]+)`, which was not admitted")
+OF_A_LEMMA = re.compile(r"depends? on `([^`]+)`, which was (?:not admitted|rejected)")
+# the lemmas that weren't looked at for that reason
+NOT_CHECKED = re.compile(r"^\S+: error: (\d+ declarations? that depends? on `[^`]+`, .*) not checked: (.*)$", re.MULTILINE)
 
 # Which edits were refused: a line each with crate/name, the sum and how.
 LEDGER = ROOT / "bench" / "attacked.txt"
@@ -122,10 +124,13 @@ def paths_of(crate, edit):
     found = set()
     for file, _, _ in edit.pairs:
         part, _, path = file.partition("/")
-        module = path.rpartition(".")[0] if part == "src" else re.sub(r"(?<=[a-z])([A-Z])", r"_\1", path.rpartition(".")[0]).lower() if part == "specs" else None
-        if module and (module in ("lib", "main") or not (ROOT / "crates" / crate / "src" / f"{module}.rt").is_file()):
-            return set()
-        found |= {module.replace("/", "::")} if module else set()
+        module = path.rpartition(".")[0]
+        if part == "specs":
+            module = re.sub(r"(?<=[a-z])([A-Z])", r"_\1", module).lower()
+        if part in ("src", "specs"):
+            if module in ("lib", "main") or not (ROOT / "crates" / crate / "src" / f"{module}.rt").is_file():
+                return set()
+            found.add(module.replace("/", "::"))
     return found
 
 
@@ -178,10 +183,11 @@ def is_open(crate, said, functions, texts):
 
 
 def is_by_name(said, error):
-    """Is an error about a name alone? If it is about a lemma that isn't proved any more, the errors of that lemma decide."""
+    """Is an error about a name alone? If it is about a lemma that isn't proved any more, the errors of that lemma decide, or of what it cites."""
     if lemma := OF_A_LEMMA.search(error):
         own = re.findall(rf"^(?:\./)?proofs/\S+: error: (`{re.escape(lemma[1])}`: .*(?:\n[ \t].*)*)$", said, re.MULTILINE)
-        return all(BY_A_NAME.search(it) for it in own)
+        cited = [why for why, names in NOT_CHECKED.findall(said) if lemma[1] in re.split("[ ,()]+", names)]
+        return all(is_by_name(said, it) for it in own or cited)
     return bool(BY_A_NAME.search(error))
 
 
@@ -314,7 +320,8 @@ def main():
         if not read:
             continue
         print(f"{crate}: {len(read)} edits", flush=True)
-        if subprocess.run([*QUICK_RT, "check"], cwd=ROOT / "crates" / crate, stdin=subprocess.DEVNULL, stdout=subprocess.DEVNULL, stderr=subprocess.STDOUT).returncode:
+        how = {"stdin": subprocess.DEVNULL, "stdout": subprocess.DEVNULL, "stderr": subprocess.STDOUT}
+        if subprocess.run([*QUICK_RT, "check"], cwd=ROOT / "crates" / crate, **how).returncode:
             print(f"{crate} isn't proved without an edit: see rt check in its folder", file=sys.stderr)
             return 2
         rounds += [(crate, it) for it in rounds_of([edit for edit, why in read if not why], given.at_most)]
