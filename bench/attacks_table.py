@@ -6,7 +6,8 @@
 The edits are crates/NAME/must-fail/*.edit and crates/NAME/planted/*.edit. What one changes is told by its old and its new texts: the
 statement of a law or of another contract, where the old text is in one; else by the words that differ: numbers and quoted texts (with a
 sign before them or not), operators and other signs alone, names alone, words that are only added or only left out, or another text in
-their place. An edit of several pairs that differ is of the last kind.
+their place. An edit of several pairs that differ is of the last kind. Where two edits of a crate make the same program, nothing is written:
+one of them must go.
 """
 
 import difflib
@@ -113,9 +114,29 @@ def named():
     return rows
 
 
+def program(crate, text):
+    """The files that an edit changes, and what it makes of them, but for how it is laid out."""
+    made = {}
+    for file, old, new in pairs_of(text):
+        made[file] = (made.get(file) or (ROOT / "crates" / crate / file).read_text(encoding="utf-8")).replace(old, new)
+    return tuple(sorted((file, " ".join(it.split())) for file, it in made.items()))
+
+
+def same():
+    """The edits of a crate that make the same wrong program, those of one program in one list."""
+    edits = {}
+    for crate in crates_below():
+        for file in sorted((ROOT / "crates" / crate).glob("*/*.edit")):
+            made = program(crate, file.read_text(encoding="utf-8"))
+            edits.setdefault((crate, made), []).append(str(file.relative_to(ROOT / "crates")))
+    return [files for files in edits.values() if len(files) > 1]
+
+
 def main():
     if sys.argv[1:] not in ([], ["--check"]):
         sys.exit(__doc__)
+    if twice := same():
+        sys.exit("\n".join(f"the same wrong program: {', '.join(files)}" for files in twice))
     text = PAGE.read_text(encoding="utf-8")
     if [it[2] for it in TABLE.finditer(text)] != [None, "named"]:
         sys.exit(f"{PAGE}: the marker comments aren't there")
