@@ -182,19 +182,22 @@ def is_open(crate, said, functions, texts):
     return False
 
 
-def is_by_name(said, error):
+def is_by_name(said, error, seen=frozenset()):
     """Is an error about a name alone? If it is about a lemma that isn't proved any more, the errors of that lemma decide, or of what it cites."""
-    if lemma := OF_A_LEMMA.search(error):
-        own = re.findall(rf"^(?:\./)?proofs/\S+: error: (`{re.escape(lemma[1])}`: .*(?:\n[ \t].*)*)$", said, re.MULTILINE)
-        cited = [why for why, names in NOT_CHECKED.findall(said) if lemma[1] in re.split("[ ,()]+", names)]
-        return all(is_by_name(said, it) for it in own or cited)
-    return bool(BY_A_NAME.search(error))
+    lemma = OF_A_LEMMA.search(error)
+    if not lemma or lemma[1] in seen:
+        return bool(lemma or BY_A_NAME.search(error))
+    own = re.findall(rf"^(?:\./)?proofs/\S+: error: (`{re.escape(lemma[1])}`: .*(?:\n[ \t].*)*)$", said, re.MULTILINE)
+    cited = [why for why, names in NOT_CHECKED.findall(said) if lemma[1] in re.split("[ ,()]+", names)]
+    return all(is_by_name(said, it, seen | {lemma[1]}) for it in own or cited)
 
 
 def refusal(said, functions):
     """How the goals of one of these functions refuse it; None where they don't. Of no functions: of any."""
     for name, verdict in VERDICT.findall(said):
-        if (not functions or is_in(name, functions)) and verdict != "proved" and not BY_A_CALL.match(verdict):
+        # it may be proved where its callers give what it asks
+        is_proved = verdict.startswith("proved") or BY_A_CALL.match(verdict)
+        if not is_proved and (not functions or is_in(name, functions)):
             at = re.escape("proofs/" + "/".join(name.split("::")[1:]) + "/")
             # what is wrong may be on the indented lines below
             errors = re.findall(rf"^(?:\./)?{at}\S+: error: (.*(?:\n[ \t].*)*)$", said, re.MULTILINE)
