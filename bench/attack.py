@@ -323,8 +323,10 @@ def main():
         if not read:
             continue
         print(f"{crate}: {len(read)} edits", flush=True)
-        how = {"stdin": subprocess.DEVNULL, "stdout": subprocess.DEVNULL, "stderr": subprocess.STDOUT}
-        if subprocess.run([*QUICK_RT, "check"], cwd=ROOT / "crates" / crate, **how).returncode:
+        how = {"stdin": subprocess.DEVNULL, "stdout": subprocess.PIPE, "stderr": subprocess.STDOUT, "errors": "replace"}
+        ran = subprocess.run([*QUICK_RT, "check"], cwd=ROOT / "crates" / crate, **how)
+        # also what judges the edits has to see no refusal there
+        if ran.returncode or refusal(ran.stdout, None):
             print(f"{crate} isn't proved without an edit: see rt check in its folder", file=sys.stderr)
             return 2
         rounds += [(crate, it) for it in rounds_of([edit for edit, why in read if not why], given.at_most)]
