@@ -39,6 +39,8 @@ VERDICT = re.compile(r"^fn (\S+): (.*)$", re.MULTILINE)
 # where the front end couldn't read a source: the file, the line, and what is wrong there
 ERROR_AT = re.compile(r"^(?:\./)?(src/\S+?\.rt):(\d+):\d+: (error.*)$", re.MULTILINE)
 BY_A_CALL = re.compile(r"no proof: it calls .* not proved")
+# the second is said of a closure with conditions
+PROVED = ("proved", "proved where its callers give what it asks")
 # a function or module that --only names and the crate hasn't, or has several times
 UNFIT_PATH = re.compile(r"^rattle: error: .*", re.MULTILINE)
 # a goal that no proof text names
@@ -195,9 +197,7 @@ def is_by_name(said, error, seen=frozenset()):
 def refusal(said, functions):
     """How the goals of one of these functions refuse it; None where they don't. Of no functions: of any."""
     for name, verdict in VERDICT.findall(said):
-        # it may be proved where its callers give what it asks
-        is_proved = verdict.startswith("proved") or BY_A_CALL.match(verdict)
-        if not is_proved and (not functions or is_in(name, functions)):
+        if (not functions or is_in(name, functions)) and verdict not in PROVED and not BY_A_CALL.match(verdict):
             at = re.escape("proofs/" + "/".join(name.split("::")[1:]) + "/")
             # what is wrong may be on the indented lines below
             errors = re.findall(rf"^(?:\./)?{at}\S+: error: (.*(?:\n[ \t].*)*)$", said, re.MULTILINE)

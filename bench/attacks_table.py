@@ -14,6 +14,7 @@ import difflib
 import re
 import sys
 
+from attack import edited, read_edit
 from repository import ROOT, crates_below, pairs_of
 
 PAGE = ROOT / "docs" / "ATTACKS.md"
@@ -114,29 +115,22 @@ def named():
     return rows
 
 
-def program(crate, text):
-    """The files that an edit changes, and what it makes of them, but for how it is laid out."""
-    made = {}
-    for file, old, new in pairs_of(text):
-        made[file] = (made.get(file) or (ROOT / "crates" / crate / file).read_text(encoding="utf-8")).replace(old, new)
-    return tuple(sorted((file, " ".join(it.split())) for file, it in made.items()))
-
-
 def same():
-    """The edits of a crate that make the same wrong program, those of one program in one list."""
+    """The edits of a crate that make the same wrong program, but for how it is laid out; those of one program in one list."""
     edits = {}
     for crate in crates_below():
-        for file in sorted((ROOT / "crates" / crate).glob("*/*.edit")):
-            made = program(crate, file.read_text(encoding="utf-8"))
-            edits.setdefault((crate, made), []).append(str(file.relative_to(ROOT / "crates")))
-    return [files for files in edits.values() if len(files) > 1]
+        for path in sorted((ROOT / "crates" / crate).glob("*/*.edit")):
+            texts, _ = edited(crate, [read_edit(crate, path)[0]])
+            made = frozenset((file, " ".join(text.split())) for file, text in texts.items())
+            edits.setdefault((crate, made), []).append(str(path.relative_to(ROOT / "crates")))
+    return [paths for paths in edits.values() if len(paths) > 1]
 
 
 def main():
     if sys.argv[1:] not in ([], ["--check"]):
         sys.exit(__doc__)
     if twice := same():
-        sys.exit("\n".join(f"the same wrong program: {', '.join(files)}" for files in twice))
+        sys.exit("\n".join(f"the same wrong program: {', '.join(paths)}" for paths in twice))
     text = PAGE.read_text(encoding="utf-8")
     if [it[2] for it in TABLE.finditer(text)] != [None, "named"]:
         sys.exit(f"{PAGE}: the marker comments aren't there")
