@@ -300,6 +300,32 @@ def behind_a_preamble(program):
     expect("an object in lower case", adapted(program, lower)[0], readable.replace(b"BEGIN:VCALENDAR", b"begin:vcalendar", 1))
 
 
+def octet_by_octet(program, words, octets):
+    """What comes out where the octets come one at a time."""
+    with tempfile.TemporaryFile() as file:
+        child = subprocess.Popen([program, *words], stdin=subprocess.PIPE, stdout=file, bufsize=0)
+        for octet in octets:
+            child.stdin.write(bytes([octet]))
+        child.stdin.close()
+        child.wait()
+        file.seek(0)
+        return file.read()
+
+
+def however_the_octets_come(program):
+    """Of a stream comes out what comes out of its objects alone, with the empty lines and byte order marks before them, at once or octet by octet."""
+    objects = [file.read_bytes() for file in sorted(FOLDER.glob("*.ics"))]
+    mark = b"\xef\xbb\xbf"
+    fronts = [b"", b"\n", b"\r\n", b"\n\r\n\n", mark, b"\r", b"\n" + mark, b"\n \n", mark + b"\r\n"]
+    alone = [front + one for front in fronts for one in objects]
+    wanted = b"".join(adapted(program, one)[0] for one in alone)
+    expect("a stream of all objects", adapted(program, b"".join(alone))[0], wanted)
+    expect("its objects octet by octet", octet_by_octet(program, ["adapt"], b"".join(alone)), wanted)
+    expect("some of them are made readable", wanted != b"".join(alone), True)
+    for name, stream in streams():
+        expect(f"{name}: octet by octet", octet_by_octet(program, ["serve", "--adapt"], stream), run(program, "serve", "--adapt", given=stream).stdout)
+
+
 def behind_the_door(program, folder, zones):
     """With --adapt each command answers what it answers behind the pipe; without it, what it answers alone."""
     for name, stream in streams():
@@ -532,6 +558,7 @@ def main():
         spellings(program)
         other_zones(program)
         behind_a_preamble(program)
+        however_the_octets_come(program)
         behind_the_door(program, folder, berlin)
         histories(program, folder)
         the_way_back(program, folder, berlin)

@@ -2,10 +2,10 @@
 use Rattle.std.proofs.Common.{◌≡◌, ◌⊎◌, inl, inr, ℕ, Bool, true, List, [], ◌∷◌, ◌++◌, take, get_or, map, length, ◌<◌, ◌+◌, Option, sym, ap, subst, ◌∙◌, refl, arith, append-nil, append_assoc}
 use Rattle.std.proofs.KnownBytes.{Keeps-refl}
 use Rattle.profile.specs.text.Trees.{Tree}
-use Rattle.sched_doors.specs.Handing.{Passes}
+use Rattle.sched_doors.specs.Streams.{AtDoor, HandsOnAll, PassesAt, one_passed}
 use Rattle.sched_cli.specs.declared.adapt.AdaptFault.{AdaptFault}
 use Rattle.sched_cli.specs.declared.adapt.AdaptFault.TheVariants.{Device, Memory}
-use Rattle.sched_cli.specs.Adapting.{AdaptStopsFor, AdaptsFront, HandsOnAll, KeepsMarks, PassesOn, adapt_status, adapt_text, adapted_text, goes_on_text, more}
+use Rattle.sched_cli.specs.Adapting.{AdaptStopsFor, AdaptsFront, KeepsMarks, PassesOn, adapt_status, adapt_text, adapted_text, goes_on_text}
 use Rattle.std.specs.List.{flat_map}
 use Rattle.std.proofs.lemmas.List.{map-append, take_more}
 use Rattle.std.proofs.lemmas.Grind.{flat_map-append}
@@ -15,10 +15,10 @@ use Rattle.sched_cli.specs.Commands.{IsStatusSaid, SaysLine}
 
 -- ---- all pieces
 
-pub one_more : (listed now : Option Tree) (input mid left output sofar written : Option (List ℕ)) (goes : Bool) → now ≡ listed → HandsOnAll listed input mid output sofar
-    → PassesOn now mid left sofar written goes → HandsOnAll listed input left output written
-one_more listed now input mid left output sofar written goes same all p =
-    more input mid left output sofar written p.is_adapted p.going_on p.handed all (subst (λ l. Passes l mid left p.is_adapted p.going_on p.handed) same p.passes) p.appended
+pub one_more : (listed now : Option Tree) (first mid last : AtDoor) (output sofar written : Option (List ℕ)) (goes : Bool) → now ≡ listed → HandsOnAll listed first mid output sofar
+    → PassesOn now mid last sofar written goes → HandsOnAll listed first last output written
+one_more listed now first mid last output sofar written goes same all p =
+    one_passed first mid last output sofar written p.is_adapted p.going_on p.handed all (subst (λ l. PassesAt l mid last p.is_adapted p.going_on p.handed) same p.passes) p.appended
 
 pub blames : (reader writer : Bool) (status : ℕ) (fault : AdaptFault) → status ≡ adapt_status fault → AdaptStopsFor reader writer fault → status ≡ 4 → (reader ≡ true) ⊎ (writer ≡ true)
 blames reader writer status Device is stops e = stops
@@ -38,8 +38,8 @@ said_of status Device a b lost is says = record { quiet = λ l. absurd (omega (a
 said_of status Memory a b lost is says = record { quiet = λ l. absurd (omega (arith, is, l)); device = λ e. absurd (omega (arith, is, e)); memory = λ e. says }
 
 -- whole pieces were handed on
-pub whole_pieces : (listed : Option Tree) (input mid output sofar : Option (List ℕ)) (status : ℕ) → HandsOnAll listed input mid output sofar → AdaptsFront status listed input output sofar
-whole_pieces listed input mid output sofar status all = record { before = mid; sofar = sofar; all = all; rest = inl (Keeps-refl sofar) }
+pub whole_pieces : (listed : Option Tree) (first mid : AtDoor) (output sofar : Option (List ℕ)) (status : ℕ) → HandsOnAll listed first mid output sofar → AdaptsFront status listed first output sofar
+whole_pieces listed first mid output sofar status all = record { before = mid; sofar = sofar; all = all; rest = inl (Keeps-refl sofar) }
 
 -- ---- what is said of an object
 

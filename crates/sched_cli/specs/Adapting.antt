@@ -3,57 +3,50 @@ use Rattle.std.specs.Prelude.{◌≡◌, ◌⊎◌, ℕ, Bool, true, false, List
 use Rattle.std.specs.List.{flat_map}
 use Rattle.std.specs.Io.KnownBytes.{Appends, Keeps}
 use Rattle.profile.specs.text.Trees.{Tree}
-use Rattle.sched_doors.specs.Handing.{Passes}
+use Rattle.sched_doors.specs.Streams.{AtDoor, HandsOnAll, PassesAt}
 use Rattle.sched_cli.specs.declared.adapt.AdaptFault.{AdaptFault}
 use Rattle.sched_cli.specs.declared.adapt.AdaptFault.TheVariants.{Device, Memory}
 use Rattle.sched_cli.specs.Commands.{device_text, memory_text}
 
 -- ---- what is handed on
 
--- the input was handed on piece by piece, each as it came or as an object made readable
-pub data HandsOnAll (listed : Option Tree) : Option (List ℕ) → Option (List ℕ) → Option (List ℕ) → Option (List ℕ) → Type 0 where
-  nothing : (input output : Option (List ℕ)) → HandsOnAll listed input input output output
-  more : (input mid left output sofar written : Option (List ℕ)) (is_adapted : Bool) (going_on : List (List ℕ)) (handed : List ℕ)
-      → HandsOnAll listed input mid output sofar → Passes listed mid left is_adapted going_on handed → Appends sofar written handed
-      → HandsOnAll listed input left output written
-
 -- one more piece was, or nothing where it doesn't go on
-pub record PassesOn (listed : Option Tree) (old new output written : Option (List ℕ)) (goes : Bool) : Type 0 where
+pub record PassesOn (listed : Option Tree) (old new : AtDoor) (output written : Option (List ℕ)) (goes : Bool) : Type 0 where
   pub is_adapted : Bool
   pub going_on : List (List ℕ)
   pub handed : List ℕ
-  pub passes : Passes listed old new is_adapted going_on handed
+  pub passes : PassesAt listed old new is_adapted going_on handed
   pub appended : Appends output written handed
   pub end : goes ≡ false → handed ≡ []
 
 -- all of it was, up to its end
-pub record AdaptsWhole (listed : Option Tree) (input left output written : Option (List ℕ)) : Type 0 where
-  pub before : Option (List ℕ)
+pub record AdaptsWhole (listed : Option Tree) (first last : AtDoor) (output written : Option (List ℕ)) : Type 0 where
+  pub before : AtDoor
   pub sofar : Option (List ℕ)
-  pub all : HandsOnAll listed input before output sofar
-  pub last : PassesOn listed before left sofar written false
+  pub all : HandsOnAll listed first before output sofar
+  pub last : PassesOn listed before last sofar written false
 
 -- a beginning of a piece was written
-pub record CutsNext (listed : Option Tree) (old output written : Option (List ℕ)) : Type 0 where
-  pub left : Option (List ℕ)
+pub record CutsNext (listed : Option Tree) (old : AtDoor) (output written : Option (List ℕ)) : Type 0 where
+  pub later : AtDoor
   pub is_adapted : Bool
   pub going_on : List (List ℕ)
   pub handed : List ℕ
-  pub passes : Passes listed old left is_adapted going_on handed
+  pub passes : PassesAt listed old later is_adapted going_on handed
   pub count : ℕ
   pub cut : Appends output written (take count handed)
 
 -- a beginning of the input was, in whole pieces; with status 4 a beginning of the next may have been written
-pub record AdaptsFront (status : ℕ) (listed : Option Tree) (input output written : Option (List ℕ)) : Type 0 where
-  pub before : Option (List ℕ)
+pub record AdaptsFront (status : ℕ) (listed : Option Tree) (first : AtDoor) (output written : Option (List ℕ)) : Type 0 where
+  pub before : AtDoor
   pub sofar : Option (List ℕ)
-  pub all : HandsOnAll listed input before output sofar
+  pub all : HandsOnAll listed first before output sofar
   pub rest : Keeps sofar written ⊎ ((status ≡ 4) × CutsNext listed before sofar written)
 
 -- ---- why it ends early
 
 -- what was written of the next piece
-abbrev pub StopsPassing : Option Tree → Option (List ℕ) → Option (List ℕ) → Option (List ℕ) → AdaptFault → Type 0
+abbrev pub StopsPassing : Option Tree → AtDoor → Option (List ℕ) → Option (List ℕ) → AdaptFault → Type 0
 StopsPassing listed old output written Device = Keeps output written ⊎ CutsNext listed old output written
 StopsPassing listed old output written Memory = Keeps output written
 

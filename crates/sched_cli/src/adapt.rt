@@ -4,6 +4,8 @@ ghost use Rattle.std.specs.Prelude.{◌≡◌, ◌⊎◌, ◌++◌, [], true, fa
 ghost use Rattle.std.specs.List.{flat_map};
 ghost use Rattle.cal_doors.specs.Adapted.{list_of};
 ghost use Rattle.sched_cli.specs.Adapting.{AdaptsFront, AdaptsWhole, AdaptStopsFor, KeepsMarks, PassesOn, StopsPassing, StopsPutting, KeepsMark, adapt_status, adapt_text, adapted_text, goes_on_text};
+ghost use Rattle.sched_doors.specs.Streams.{WritesStream, at_door};
+ghost use Rattle.sched_doors.specs.declared.place.Place.TheVariants.{Start};
 ghost use Rattle.sched_cli.specs.Commands.{BlamesDevice, IsStatusSaid, SaysLine, TellsDevice};
 ghost use Rattle.std.specs.Io.KnownBytes.{Appends};
 
@@ -32,8 +34,9 @@ pub fn run_adapt<R: Input + Drop, W: Output, E: Output>(
     writer: &mut W,
     errors: &mut E,
 ) -> u8
-    ensures whole { result ≡ 0 → AdaptsWhole (list_of door.old.listed) (R.remaining door.old.reader) (R.remaining door.new.reader) (W.contents writer.old) (W.contents writer.new) }
-    ensures front { (result ≡ 0 → ⊥) → AdaptsFront result (list_of door.old.listed) (R.remaining door.old.reader) (W.contents writer.old) (W.contents writer.new) }
+    ensures whole { result ≡ 0 → AdaptsWhole (list_of door.old.listed) (at_door door.old.place door.old.octets.items (R.remaining door.old.reader)) (at_door door.new.place door.new.octets.items (R.remaining door.new.reader)) (W.contents writer.old) (W.contents writer.new) }
+    ensures stream { result ≡ 0 → door.old.place ≡ Start → WritesStream (list_of door.old.listed) (R.remaining door.old.reader) (W.contents writer.old) (W.contents writer.new) }
+    ensures front { (result ≡ 0 → ⊥) → AdaptsFront result (list_of door.old.listed) (at_door door.old.place door.old.octets.items (R.remaining door.old.reader)) (W.contents writer.old) (W.contents writer.new) }
     ensures device { BlamesDevice (R.has_failed door.new.reader) (W.has_failed writer.new) result }
     ensures told { TellsDevice result (R.has_failed door.old.reader) (R.has_failed door.new.reader) (W.has_failed writer.old) (W.has_failed writer.new) }
     ensures status { (result ≡ 0) ⊎ (result ≡ 3) ⊎ (result ≡ 4) ⊎ (result ≡ 5) }
@@ -57,8 +60,8 @@ fn pass_on<R: Input + Drop, W: Output>(
     door: &mut Door<'_, '_, R>,
     writer: &mut W,
 ) -> Result<bool, AdaptFault>
-    ensures passes { IfOk result (PassesOn (list_of door.old.listed) (R.remaining door.old.reader) (R.remaining door.new.reader) (W.contents writer.old) (W.contents writer.new)) }
-    ensures stops { IfErr result (StopsPassing (list_of door.old.listed) (R.remaining door.old.reader) (W.contents writer.old) (W.contents writer.new)) }
+    ensures passes { IfOk result (PassesOn (list_of door.old.listed) (at_door door.old.place door.old.octets.items (R.remaining door.old.reader)) (at_door door.new.place door.new.octets.items (R.remaining door.new.reader)) (W.contents writer.old) (W.contents writer.new)) }
+    ensures stops { IfErr result (StopsPassing (list_of door.old.listed) (at_door door.old.place door.old.octets.items (R.remaining door.old.reader)) (W.contents writer.old) (W.contents writer.new)) }
     ensures cause { IfErr result (AdaptStopsFor (R.has_failed door.new.reader) (W.has_failed writer.new)) }
     ensures mark { OnOk result (R.has_failed door.new.reader ≡ R.has_failed door.old.reader) }
     ensures sent { OnOk result (W.has_failed writer.new ≡ W.has_failed writer.old) }

@@ -1,2 +1,5 @@
+pub mod Leading
 pub mod Passing
+pub mod Scanning
+pub mod StreamLemmas
 pub mod Taking

@@ -2,14 +2,16 @@
 //! A stream may begin with a preamble or with an object. One object is in memory at a time; one that is longer than a message may be goes through
 //! in pieces, as it is.
 
-ghost use Rattle.std.specs.Prelude.{◌≡◌, [], drop, length, map, is_some, string_bytes, false, IfErr, OnErr, OnOk};
+ghost use Rattle.std.specs.Prelude.{◌≡◌, ◌<◌, ◌≤◌, ◌++◌, ℕ, List, [], drop, length, map, take, is_some, string_bytes, true, false, IfErr, OnErr, OnOk};
 ghost use Rattle.cal_doors.specs.Adapted.{list_of};
-ghost use Rattle.sched_doors.specs.Handing.{AreLentNone, HandsOn, Passes};
-ghost use Rattle.sched_doors.specs.Pieces.{KeepsUnlessRead, IsCauseOf};
+ghost use Rattle.sched_doors.specs.Handing.{HandsOn, IsForgotten, IsFrontPiece, IsPreamblePiece, LendsAsCame, Passes, after_preamble, begun_at};
+ghost use Rattle.sched_doors.specs.Pieces.{IsCauseOf, IsEmpty, KeepsUnlessRead};
 ghost use Rattle.sched_doors.specs.declared.fault.DoorFault.TheVariants.{Memory};
+ghost use Rattle.sched_doors.specs.declared.place.Place.TheVariants.{Start, Between, Front, Long};
 
 use crate::fault::DoorFault;
-use crate::piece::{Piece, take_object, take_piece};
+use crate::piece::{MOST_OCTETS, Piece, take_front, take_object, take_piece};
+use crate::place::{FrontCutter, Place};
 use crate::preamble::{LineSoFar, begins_with_preamble, take_preamble};
 use cal_doors::adapt;
 use ical_lines::Cutter;
@@ -17,19 +19,6 @@ use ical_tree::Component;
 use sched_devices::Input;
 use std::alloc::Global;
 use std::io::{self, ErrorKind};
-
-/// Where in its stream a door is.
-#[derive(Clone, Copy)]
-enum Place {
-    /// Before the first octet.
-    Start,
-    /// In the preamble, in a line of it that has this.
-    Preamble(LineSoFar),
-    /// Between objects.
-    Objects,
-    /// In an object that is too long.
-    Long(Cutter),
-}
 
 /// A reader behind the door.
 #[derive(Drop)]
@@ -39,11 +28,11 @@ pub struct Door<'c, 'a, R: Input + Drop> {
     /// An object with VTIMEZONEs for the names that mean none in an object that comes.
     listed: Option<&'c Component<'a>>,
     place: Place,
-    /// What was read last.
+    /// What was read last; of an object that isn't whole all that was read.
     octets: Vec<u8>,
-    /// How many of these were consumed.
+    /// How many of these were lent before, or were consumed.
     consumed: usize,
-    /// How many objects came, up to the greatest u64.
+    /// How many objects have begun, up to the greatest u64.
     objects: u64,
     /// What was read last is an object that was made readable.
     is_adapted: bool,
@@ -59,6 +48,7 @@ impl<'c, 'a, R: Input + Drop> Door<'c, 'a, R> {
     pub fn new(alloc: Global, listed: Option<&'c Component<'a>>, reader: R) -> Door<'c, 'a, R>
         ensures listed { result.listed ≡ listed.entry }
         ensures reader { result.reader ≡ reader }
+        ensures place { result.place ≡ Start }
         ensures fault { is_some result.fault ≡ false }
         ensures lent { drop result.consumed result.octets.items ≡ [] }
     {
@@ -76,7 +66,7 @@ impl<'c, 'a, R: Input + Drop> Door<'c, 'a, R> {
         }
     }
 
-    /// How many objects came, up to the greatest u64.
+    /// How many objects have begun, up to the greatest u64.
     pub fn objects(&self) -> u64
         ensures { result ≡ self.now.objects }
     {
@@ -105,10 +95,13 @@ impl<'c, 'a, R: Input + Drop> Door<'c, 'a, R> {
         }
     }
 
-    /// Reads on: a piece of the preamble, the next object, or a piece of an object that is too long. Then it lends that, an object made
-    /// readable if that is needed and can be; nothing only at the end of the input, and where it fails. What it lent before is forgotten.
+    /// Reads on: a piece of the preamble; of the next object the empty lines before it that have come, and its first octet; the rest of that
+    /// object; or a piece of one that is too long. Then it lends that: the rest of the object as it came, or, if that is needed and can be, so
+    /// that both are the object made readable. Nothing only at the end of the input, and where it fails. What it lent before is forgotten.
     pub fn pass(&mut self) -> Result<(), DoorFault>
-        ensures passes { OnOk result (Passes (list_of self.old.listed) (R.remaining self.old.reader) (R.remaining self.new.reader) self.new.is_adapted (map string_bytes self.new.going_on.items) (drop self.new.consumed self.new.octets.items)) }
+        ensures passes { OnOk result (Passes (list_of self.old.listed) (R.remaining self.old.reader) (R.remaining self.new.reader) self.old.place self.new.place
+            (begun_at self.old.place self.old.octets.items) (begun_at self.new.place self.new.octets.items)
+            self.new.is_adapted (map string_bytes self.new.going_on.items) (drop self.new.consumed self.new.octets.items)) }
         ensures nothing { OnErr result (drop self.new.consumed self.new.octets.items ≡ []) }
         ensures cause { IfErr result (IsCauseOf (R.has_failed self.new.reader)) }
         ensures mark { OnOk result (R.has_failed self.new.reader ≡ R.has_failed self.old.reader) }
@@ -116,141 +109,224 @@ impl<'c, 'a, R: Input + Drop> Door<'c, 'a, R> {
         ensures listed { self.new.listed ≡ self.old.listed }
         ensures fault { self.new.fault ≡ self.old.fault }
     {
-        self.octets.clear();
-        self.consumed = 0;
-        self.is_adapted = false;
-        self.going_on.clear();
+        self.forget();
         let passed = self.pass_next();
         if passed.is_err() {
-            self.octets.clear();
+            self.consumed = self.octets.len();
         }
         passed
     }
 
+    /// Forgets what was lent, but keeps what was read of an object that isn't whole.
+    fn forget(&mut self)
+        ensures forgotten { IsForgotten self.new.place self.new.octets.items self.new.consumed self.new.is_adapted self.new.going_on.items }
+        ensures octets { self.new.octets.items ≡ begun_at self.old.place self.old.octets.items }
+        ensures place { self.new.place ≡ self.old.place }
+        ensures reader { self.new.reader ≡ self.old.reader }
+        ensures listed { self.new.listed ≡ self.old.listed }
+        ensures fault { self.new.fault ≡ self.old.fault }
+    {
+        self.is_adapted = false;
+        self.going_on.clear();
+        match self.place {
+            Place::Front(_) => {}
+            _ => self.octets.clear(),
+        }
+        self.consumed = self.octets.len();
+    }
+
     /// Reads on, where nothing is lent.
     fn pass_next(&mut self) -> Result<(), DoorFault>
-        requires { AreLentNone self.old.octets.items self.old.consumed self.old.is_adapted self.old.going_on.items }
-        ensures passes { OnOk result (Passes (list_of self.old.listed) (R.remaining self.old.reader) (R.remaining self.new.reader) self.new.is_adapted (map string_bytes self.new.going_on.items) (drop self.new.consumed self.new.octets.items)) }
+        requires { IsForgotten self.old.place self.old.octets.items self.old.consumed self.old.is_adapted self.old.going_on.items }
+        ensures passes { OnOk result (Passes (list_of self.old.listed) (R.remaining self.old.reader) (R.remaining self.new.reader) self.old.place self.new.place
+            (begun_at self.old.place self.old.octets.items) (begun_at self.new.place self.new.octets.items)
+            self.new.is_adapted (map string_bytes self.new.going_on.items) (drop self.new.consumed self.new.octets.items)) }
         ensures cause { IfErr result (IsCauseOf (R.has_failed self.new.reader)) }
         ensures mark { OnOk result (R.has_failed self.new.reader ≡ R.has_failed self.old.reader) }
         ensures told { IfErr result (KeepsUnlessRead (R.has_failed self.old.reader) (R.has_failed self.new.reader)) }
         ensures listed { self.new.listed ≡ self.old.listed }
         ensures fault { self.new.fault ≡ self.old.fault }
-        ensures start { self.new.consumed ≡ 0 }
     {
         match self.place {
             Place::Start => self.pass_first(),
             Place::Preamble(line) => self.pass_preamble(line),
-            Place::Objects => self.pass_object(),
+            Place::Between => self.pass_front(Cutter::new()),
+            Place::Front(front) => {
+                if front.cutter.has_begun() {
+                    self.pass_object(front)
+                } else {
+                    self.pass_front(front.cutter)
+                }
+            }
             Place::Long(cutter) => self.pass_long(cutter),
         }
     }
 
-    /// Reads a piece of a preamble, or an object where there is none.
+    /// Reads a piece of a preamble, or the front of an object where there is none.
     fn pass_first(&mut self) -> Result<(), DoorFault>
-        requires { AreLentNone self.old.octets.items self.old.consumed self.old.is_adapted self.old.going_on.items }
-        ensures passes { OnOk result (Passes (list_of self.old.listed) (R.remaining self.old.reader) (R.remaining self.new.reader) self.new.is_adapted (map string_bytes self.new.going_on.items) (drop self.new.consumed self.new.octets.items)) }
+        requires forgotten { IsForgotten self.old.place self.old.octets.items self.old.consumed self.old.is_adapted self.old.going_on.items }
+        requires place { self.old.place ≡ Start }
+        ensures passes { OnOk result (Passes (list_of self.old.listed) (R.remaining self.old.reader) (R.remaining self.new.reader) self.old.place self.new.place
+            (begun_at self.old.place self.old.octets.items) (begun_at self.new.place self.new.octets.items)
+            self.new.is_adapted (map string_bytes self.new.going_on.items) (drop self.new.consumed self.new.octets.items)) }
         ensures cause { IfErr result (IsCauseOf (R.has_failed self.new.reader)) }
         ensures mark { OnOk result (R.has_failed self.new.reader ≡ R.has_failed self.old.reader) }
         ensures told { IfErr result (KeepsUnlessRead (R.has_failed self.old.reader) (R.has_failed self.new.reader)) }
         ensures listed { self.new.listed ≡ self.old.listed }
         ensures fault { self.new.fault ≡ self.old.fault }
-        ensures start { self.new.consumed ≡ 0 }
     {
-        if begins_with_preamble(&mut self.reader)? {
+        let comes = begins_with_preamble(&mut self.reader)?;
+        if comes {
             self.pass_preamble(LineSoFar::Nothing)
         } else {
-            self.pass_object()
+            self.pass_front(Cutter::new())
         }
     }
 
     /// Reads a piece of the preamble, in a line of it that has this.
     fn pass_preamble(&mut self, line: LineSoFar) -> Result<(), DoorFault>
-        requires { AreLentNone self.old.octets.items self.old.consumed self.old.is_adapted self.old.going_on.items }
-        ensures passes { OnOk result (Passes (list_of self.old.listed) (R.remaining self.old.reader) (R.remaining self.new.reader) self.new.is_adapted (map string_bytes self.new.going_on.items) (drop self.new.consumed self.new.octets.items)) }
+        requires all { self.old.consumed ≡ length self.old.octets.items }
+        ensures lends { OnOk result (LendsAsCame (R.remaining self.old.reader) (R.remaining self.new.reader) (IsPreamblePiece line self.new.place) self.new.place
+            self.old.octets.items (begun_at self.new.place self.new.octets.items) (drop self.new.consumed self.new.octets.items)) }
+        ensures quiet { (self.new.is_adapted ≡ self.old.is_adapted) × (self.new.going_on ≡ self.old.going_on) }
         ensures cause { IfErr result (IsCauseOf (R.has_failed self.new.reader)) }
         ensures mark { OnOk result (R.has_failed self.new.reader ≡ R.has_failed self.old.reader) }
         ensures told { IfErr result (KeepsUnlessRead (R.has_failed self.old.reader) (R.has_failed self.new.reader)) }
         ensures listed { self.new.listed ≡ self.old.listed }
         ensures fault { self.new.fault ≡ self.old.fault }
-        ensures start { self.new.consumed ≡ 0 }
     {
-        self.place = match take_preamble(&mut self.reader, line, &mut self.octets)? {
-            Some(line) => Place::Preamble(line),
-            None => Place::Objects,
-        };
+        let next = take_preamble(&mut self.reader, line, &mut self.octets)?;
+        self.place = place_after(next);
         Ok(())
     }
 
-    /// Reads a piece of an object that is too long; the next object where nothing of it was left.
-    fn pass_long(&mut self, cutter: Cutter) -> Result<(), DoorFault>
-        requires { AreLentNone self.old.octets.items self.old.consumed self.old.is_adapted self.old.going_on.items }
-        ensures passes { OnOk result (Passes (list_of self.old.listed) (R.remaining self.old.reader) (R.remaining self.new.reader) self.new.is_adapted (map string_bytes self.new.going_on.items) (drop self.new.consumed self.new.octets.items)) }
+    /// Reads the empty lines before an object that have come, and its first octet behind them. They are handed on at once: who waits for the octet
+    /// behind the object before gets it.
+    fn pass_front(&mut self, cutter: Cutter) -> Result<(), DoorFault>
+        requires all { self.old.consumed ≡ length self.old.octets.items }
+        requires empty { IsEmpty cutter }
+        ensures lends { OnOk result (LendsAsCame (R.remaining self.old.reader) (R.remaining self.new.reader) (λ taken. IsFrontPiece cutter self.old.octets.items taken self.new.place) self.new.place
+            self.old.octets.items (begun_at self.new.place self.new.octets.items) (drop self.new.consumed self.new.octets.items)) }
+        ensures quiet { (self.new.is_adapted ≡ self.old.is_adapted) × (self.new.going_on ≡ self.old.going_on) }
         ensures cause { IfErr result (IsCauseOf (R.has_failed self.new.reader)) }
         ensures mark { OnOk result (R.has_failed self.new.reader ≡ R.has_failed self.old.reader) }
         ensures told { IfErr result (KeepsUnlessRead (R.has_failed self.old.reader) (R.has_failed self.new.reader)) }
         ensures listed { self.new.listed ≡ self.old.listed }
         ensures fault { self.new.fault ≡ self.old.fault }
-        ensures start { self.new.consumed ≡ 0 }
     {
-        let mut cutter = cutter;
-        match take_piece(&mut self.reader, &mut cutter, &mut self.octets)? {
-            Piece::Goes => {
-                self.place = Place::Long(cutter);
-                Ok(())
-            }
-            Piece::Ended if self.octets.is_empty() => self.pass_object(),
-            Piece::Ended => {
-                self.place = Place::Objects;
-                Ok(())
-            }
-            Piece::End => {
-                self.place = Place::Objects;
-                Ok(())
-            }
+        let front = take_front(&mut self.reader, cutter, &mut self.octets)?;
+        let begins = front.cutter.has_begun();
+        self.objects = self.objects.saturating_add(u64::from(begins));
+        if self.octets.len() > MOST_OCTETS {
+            self.place = Place::Long(front.cutter);
+            return Ok(());
         }
+        self.place = Place::Front(front);
+        Ok(())
     }
 
-    /// Reads an object, or the first octets of one that is too long.
-    fn pass_object(&mut self) -> Result<(), DoorFault>
-        requires { AreLentNone self.old.octets.items self.old.consumed self.old.is_adapted self.old.going_on.items }
-        ensures passes { OnOk result (Passes (list_of self.old.listed) (R.remaining self.old.reader) (R.remaining self.new.reader) self.new.is_adapted (map string_bytes self.new.going_on.items) (drop self.new.consumed self.new.octets.items)) }
+    /// Reads the rest of an object, or octets up to more than a message may have.
+    fn pass_object(&mut self, front: FrontCutter) -> Result<(), DoorFault>
+        requires forgotten { IsForgotten self.old.place self.old.octets.items self.old.consumed self.old.is_adapted self.old.going_on.items }
+        requires place { self.old.place ≡ Front front }
+        requires begun { front.cutter.begun ≡ true }
+        ensures passes { OnOk result (Passes (list_of self.old.listed) (R.remaining self.old.reader) (R.remaining self.new.reader) self.old.place self.new.place
+            (begun_at self.old.place self.old.octets.items) (begun_at self.new.place self.new.octets.items)
+            self.new.is_adapted (map string_bytes self.new.going_on.items) (drop self.new.consumed self.new.octets.items)) }
         ensures cause { IfErr result (IsCauseOf (R.has_failed self.new.reader)) }
         ensures mark { OnOk result (R.has_failed self.new.reader ≡ R.has_failed self.old.reader) }
         ensures told { IfErr result (KeepsUnlessRead (R.has_failed self.old.reader) (R.has_failed self.new.reader)) }
         ensures listed { self.new.listed ≡ self.old.listed }
         ensures fault { self.new.fault ≡ self.old.fault }
-        ensures start { self.new.consumed ≡ 0 }
     {
-        let mut cutter = Cutter::new();
+        let mut cutter = front.cutter;
+        self.place = Place::Between;
         let whole = take_object(&mut self.reader, &mut cutter, &mut self.octets)?;
-        self.objects = self.objects.saturating_add(u64::from(cutter.has_begun()));
         if whole {
-            self.place = Place::Objects;
             return self.hand_on();
         }
         self.place = Place::Long(cutter);
         Ok(())
     }
 
-    /// Makes the object readable that was read, if it isn't and can be.
-    fn hand_on(&mut self) -> Result<(), DoorFault>
-        requires plain { (self.old.is_adapted ≡ false) × (self.old.going_on.items ≡ []) }
-        ensures hands_on { OnOk result (HandsOn (list_of self.old.listed) self.old.octets.items self.new.is_adapted (map string_bytes self.new.going_on.items) self.new.octets.items) }
-        ensures some { OnOk result (length self.new.octets.items ≡ 0 → length self.old.octets.items ≡ 0) }
-        ensures fault_is { IfErr result (λ fault. fault ≡ Memory) }
-        ensures reader { self.new.reader ≡ self.old.reader }
+    /// Reads a piece of an object that is too long; the front of the next object where nothing of it was left.
+    fn pass_long(&mut self, cutter: Cutter) -> Result<(), DoorFault>
+        requires forgotten { IsForgotten self.old.place self.old.octets.items self.old.consumed self.old.is_adapted self.old.going_on.items }
+        requires place { self.old.place ≡ Long cutter }
+        ensures passes { OnOk result (Passes (list_of self.old.listed) (R.remaining self.old.reader) (R.remaining self.new.reader) self.old.place self.new.place
+            (begun_at self.old.place self.old.octets.items) (begun_at self.new.place self.new.octets.items)
+            self.new.is_adapted (map string_bytes self.new.going_on.items) (drop self.new.consumed self.new.octets.items)) }
+        ensures cause { IfErr result (IsCauseOf (R.has_failed self.new.reader)) }
+        ensures mark { OnOk result (R.has_failed self.new.reader ≡ R.has_failed self.old.reader) }
+        ensures told { IfErr result (KeepsUnlessRead (R.has_failed self.old.reader) (R.has_failed self.new.reader)) }
         ensures listed { self.new.listed ≡ self.old.listed }
         ensures fault { self.new.fault ≡ self.old.fault }
-        ensures consumed { self.new.consumed ≡ self.old.consumed }
     {
-        if let Some(adapted) = adapt(self.alloc, self.octets.as_slice(), self.listed)? {
+        let had_begun = cutter.has_begun();
+        let mut cutter = cutter;
+        let piece = take_piece(&mut self.reader, &mut cutter, &mut self.octets)?;
+        let begins = !had_begun && cutter.has_begun();
+        self.objects = self.objects.saturating_add(u64::from(begins));
+        match piece {
+            Piece::Goes => {
+                self.place = Place::Long(cutter);
+                Ok(())
+            }
+            Piece::End => {
+                self.place = Place::Long(cutter);
+                Ok(())
+            }
+            Piece::Ended if self.octets.is_empty() => self.pass_front(Cutter::new()),
+            Piece::Ended => {
+                self.place = Place::Between;
+                Ok(())
+            }
+        }
+    }
+
+    /// Makes the object readable that was read, if it isn't and can be. What was handed on of it stays its beginning.
+    fn hand_on(&mut self) -> Result<(), DoorFault>
+        requires plain { (self.old.is_adapted ≡ false) × (self.old.going_on.items ≡ []) }
+        requires within { self.old.consumed ≤ length self.old.octets.items }
+        ensures hands_on { OnOk result (HandsOn (list_of self.old.listed) self.old.octets.items self.new.is_adapted (map string_bytes self.new.going_on.items)
+            (take self.old.consumed self.old.octets.items ++ drop self.new.consumed self.new.octets.items)) }
+        ensures some { OnOk result (length (drop self.new.consumed self.new.octets.items) ≡ 0 → length (drop self.old.consumed self.old.octets.items) ≡ 0) }
+        ensures fault_is { IfErr result (λ fault. fault ≡ Memory) }
+        ensures reader { self.new.reader ≡ self.old.reader }
+        ensures place { self.new.place ≡ self.old.place }
+        ensures listed { self.new.listed ≡ self.old.listed }
+        ensures fault { self.new.fault ≡ self.old.fault }
+    {
+        let Some(adapted) = adapt(self.alloc, self.octets.as_slice(), self.listed)? else {
+            return Ok(());
+        };
+        if goes_on_from(&self.octets[..self.consumed], adapted.octets.as_slice()) {
             self.octets = adapted.octets;
             self.going_on = adapted.going_on;
             self.is_adapted = true;
         }
         Ok(())
     }
+}
+
+/// The place behind octets of a preamble: in a line of it that has this, or behind its empty line.
+fn place_after(line: Option<LineSoFar>) -> Place
+    ensures { result ≡ after_preamble line }
+{
+    match line {
+        Some(line) => Place::Preamble(line),
+        None => Place::Between,
+    }
+}
+
+/// Whether octets begin with these, and have more. What is made of an object always does: its first line stays as it came.
+fn goes_on_from(front: &[u8], octets: &[u8]) -> bool
+    ensures { result ≡ true → (rest : List ℕ) × (octets.now ≡ front.now ++ rest) × (0 < length rest) }
+{
+    if octets.len() <= front.len() {
+        return false;
+    }
+    octets.starts_with(front)
 }
 
 /// Its octets aren't those of the reader, and are not told in advance.

@@ -5,6 +5,7 @@ mod door;
 mod fault;
 mod inbox;
 mod piece;
+mod place;
 mod preamble;
 
 pub use door::Door;

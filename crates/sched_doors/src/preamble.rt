@@ -1,8 +1,8 @@
 //! The preamble of a stream, up to its empty line: it goes through the door as it is.
 
-ghost use Rattle.std.specs.Prelude.{◌≡◌, ◌<◌, ◌≤◌, length, not, IfErr, IfOk, OnErr, OnOk};
+ghost use Rattle.std.specs.Prelude.{◌≡◌, ◌<◌, ◌≤◌, length, take, not, IfErr, IfOk, IfSome, OnErr, OnOk};
 ghost use Rattle.std.specs.Io.KnownBytes.{Keeps};
-ghost use Rattle.sched_doors.specs.Pieces.{KeepsUnlessRead, IsCauseOf, TakesSome, may_begin_object};
+ghost use Rattle.sched_doors.specs.Pieces.{KeepsUnlessRead, IsCauseOf, Scans, TakesPreamble, line_after, may_begin_object};
 
 use crate::fault::DoorFault;
 use crate::piece::PIECE;
@@ -29,6 +29,7 @@ pub(crate) struct Scanned {
 /// Whether a preamble comes first: what is read begins with none of the octets that an object or an empty line begins with.
 pub(crate) fn begins_with_preamble<R: Input>(reader: &mut R) -> Result<bool, DoorFault>
     ensures comes { IfOk result (λ comes. comes ≡ not (may_begin_object (R.lent reader.new))) }
+    ensures begins { IfOk result (λ comes. IfSome (R.remaining reader.old) (λ octets. may_begin_object octets ≡ not comes)) }
     ensures keeps { Keeps (R.remaining reader.old) (R.remaining reader.new) }
     ensures cause { IfErr result (IsCauseOf (R.has_failed reader.new)) }
     ensures mark { OnOk result (R.has_failed reader.new ≡ R.has_failed reader.old) }
@@ -50,7 +51,7 @@ pub(crate) fn take_preamble<R: Input>(
     line: LineSoFar,
     octets: &mut Vec<u8>,
 ) -> Result<Option<LineSoFar>, DoorFault>
-    ensures takes { OnOk result (TakesSome (R.remaining reader.old) (R.remaining reader.new) octets.old.items octets.new.items) }
+    ensures takes { IfOk result (TakesPreamble (R.remaining reader.old) (R.remaining reader.new) line octets.old.items octets.new.items) }
     ensures cause { IfErr result (IsCauseOf (R.has_failed reader.new)) }
     ensures mark { OnOk result (R.has_failed reader.new ≡ R.has_failed reader.old) }
     ensures told { IfErr result (KeepsUnlessRead (R.has_failed reader.old) (R.has_failed reader.new)) }
@@ -70,6 +71,7 @@ pub(crate) fn take_preamble<R: Input>(
 fn scan(line: LineSoFar, lent: &[u8]) -> Scanned
     ensures within { result.count ≤ length lent.now }
     ensures some { 0 < length lent.now → 0 < result.count }
+    ensures scans { Scans line (take result.count lent.now) result.line }
 {
     let mut line = line;
     for (place, octet) in lent.iter().enumerate() {
@@ -91,7 +93,9 @@ fn scan(line: LineSoFar, lent: &[u8]) -> Scanned
 
 impl LineSoFar {
     /// What the line has with one more octet; None where it was the empty line, which has ended.
-    fn after(self, octet: u8) -> Option<LineSoFar> {
+    fn after(self, octet: u8) -> Option<LineSoFar>
+        ensures { result ≡ line_after self octet }
+    {
         match (self, octet) {
             (LineSoFar::Nothing | LineSoFar::Return, b'\n') => None,
             (LineSoFar::Some, b'\n') => Some(LineSoFar::Nothing),

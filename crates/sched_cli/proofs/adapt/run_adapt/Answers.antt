@@ -1,11 +1,11 @@
 use Rattle.std.proofs.Common.{◌∙◌, ap, refl}
 use Rattle.cal_doors.specs.Adapted.{list_of}
-use Rattle.sched_cli.specs.Adapting.{nothing}
+use Rattle.sched_doors.specs.Streams.{none_passed}
 use Rattle.sched_cli.proofs.Adapted.{one_more, whole_pieces}
 use Rattle.sched_cli.proofs.adapt.run_adapt.Goals as goal
 
 pub loop-init : goal.loop-init
-loop-init g c = (nothing _ _, refl, refl, refl, λ silent. refl)
+loop-init g c = (none_passed _ _, refl, refl, refl, λ silent. refl)
 
 pub returns-in_default-clause-front : goal.returns-in_default-clause-front
 returns-in_default-clause-front g c =

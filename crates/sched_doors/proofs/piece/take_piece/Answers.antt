@@ -11,5 +11,5 @@ returns-clause-takes g c =
     let within : count ≤ length (take c.min.result lent) = cut.ensures.within in
     let shown : count ≤ length lent = search rules in
     let takes = taken_of _ _ _ _ lent count c.buffer-lent.ensures.lent c.lend.ensures.keeps c.buffer-lent.ensures.front c.in-Ok.ensures.end c.consume.ensures.takes shown in
-    subst (TakesDoorPiece _ _ _ _ _) (sym c.piece.ensures)
-    (taken_piece _ _ lent _ _ c.min.result count cut.result.ended _ c.min.ensures within cut.ensures.some cut.ensures.all takes c.in_ok-extend_from_slice.ensures.items)
+    subst (TakesDoorPiece _ _ _ _ _ _) (sym c.piece.ensures)
+    (taken_piece _ _ lent c.min.result count c.min.ensures within takes _ _ _ _ cut.result.ended c.in_ok-extend_from_slice.ensures.items cut.ensures.leads cut.ensures.some cut.ensures.before cut.ensures.ended cut.ensures.all)

@@ -1,5 +1,5 @@
 use Rattle.std.proofs.Common.{◌≤◌, take, length, rules}
-use Rattle.sched_doors.proofs.Taking.{taken_of, taken_some}
+use Rattle.sched_doors.proofs.Taking.{taken_of, taken_preamble}
 use Rattle.sched_doors.proofs.preamble.take_preamble.Goals as goal
 
 pub returns-clause-takes : goal.returns-clause-takes
@@ -10,4 +10,4 @@ returns-clause-takes g c =
     let within : count ≤ length (take c.min.result lent) = scanned.ensures.within in
     let shown : count ≤ length lent = search rules in
     let takes = taken_of _ _ _ _ lent count c.buffer-lent.ensures.lent c.lend.ensures.keeps c.buffer-lent.ensures.front c.in-Ok.ensures.end c.consume.ensures.takes shown in
-    taken_some _ _ lent _ _ c.min.result count c.min.ensures within scanned.ensures.some takes c.in_ok-extend_from_slice.ensures.items
+    taken_preamble _ _ lent c.min.result count c.min.ensures within takes _ _ _ _ scanned.ensures.some c.in_ok-extend_from_slice.ensures.items scanned.ensures.scans

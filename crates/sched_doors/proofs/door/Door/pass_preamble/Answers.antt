@@ -1,7 +1,5 @@
-use Rattle.std.proofs.Common.{ap, map, string_bytes}
-use Rattle.sched_doors.proofs.Passing.{as_it_came}
+use Rattle.sched_doors.proofs.Passing.{lends_preamble}
 use Rattle.sched_doors.proofs.door.Door.pass_preamble.Goals as goal
 
-pub returns-clause-passes : goal.returns-clause-passes
-returns-clause-passes g c =
-    as_it_came _ _ _ _ _ _ _ _ c.requires.nothing c.requires.start c.requires.plain (ap (map string_bytes) c.requires.none) c.in_ok-line.ensures.takes
+pub returns-clause-lends : goal.returns-clause-lends
+returns-clause-lends g c = lends_preamble _ _ _ _ _ _ _ _ c.place_after-self.ensures c.requires.all c.in_ok-next.ensures.takes
