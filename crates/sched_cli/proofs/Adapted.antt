@@ -1,8 +1,10 @@
 -- What was handed on, piece by piece, and what was said of it.
-use Rattle.std.proofs.Common.{◌≡◌, ◌⊎◌, inl, inr, ℕ, Bool, true, List, [], ◌∷◌, ◌++◌, take, get_or, map, length, ◌<◌, ◌+◌, Option, sym, ap, subst, ◌∙◌, refl, arith, append-nil, append_assoc}
+use Rattle.std.proofs.Common.{◌≡◌, ◌⊎◌, inl, inr, ℕ, Bool, true, false, List, [], ◌∷◌, ◌++◌, take, get_or, map, length, ◌<◌, ◌+◌, Option, sym, ap, subst, ◌∙◌, refl, arith, append-nil, append_assoc}
 use Rattle.std.proofs.KnownBytes.{Keeps-refl}
 use Rattle.profile.specs.text.Trees.{Tree}
-use Rattle.sched_doors.specs.Streams.{AtDoor, HandsOnAll, PassesAt, one_passed}
+use Rattle.sched_doors.specs.Streams.{AtDoor, HandsOnAll, PassesAt, WritesStream, one_passed}
+use Rattle.sched_doors.specs.declared.place.Place.TheVariants.{Start}
+use Rattle.sched_doors.proofs.StreamLemmas.{whole_stream}
 use Rattle.sched_cli.specs.declared.adapt.AdaptFault.{AdaptFault}
 use Rattle.sched_cli.specs.declared.adapt.AdaptFault.TheVariants.{Device, Memory}
 use Rattle.sched_cli.specs.Adapting.{AdaptStopsFor, AdaptsFront, KeepsMarks, PassesOn, adapt_status, adapt_text, adapted_text, goes_on_text}
@@ -19,6 +21,13 @@ pub one_more : (listed now : Option Tree) (first mid last : AtDoor) (output sofa
     → PassesOn now mid last sofar written goes → HandsOnAll listed first last output written
 one_more listed now first mid last output sofar written goes same all p =
     one_passed first mid last output sofar written p.is_adapted p.going_on p.handed all (subst (λ l. PassesAt l mid last p.is_adapted p.going_on p.handed) same p.passes) p.appended
+
+-- up to the end of the input, from the first octet on
+pub whole_so : (listed now : Option Tree) (first mid last : AtDoor) (output sofar written : Option (List ℕ)) → now ≡ listed → first.place ≡ Start → first.begun ≡ []
+    → HandsOnAll listed first mid output sofar → PassesOn now mid last sofar written false → WritesStream listed first.left output written
+whole_so listed now first mid last output sofar written same start none all p =
+    whole_stream listed first mid last output sofar written p.is_adapted p.going_on p.handed start none all (subst (λ l. PassesAt l mid last p.is_adapted p.going_on p.handed) same p.passes)
+    p.appended (p.end refl)
 
 pub blames : (reader writer : Bool) (status : ℕ) (fault : AdaptFault) → status ≡ adapt_status fault → AdaptStopsFor reader writer fault → status ≡ 4 → (reader ≡ true) ⊎ (writer ≡ true)
 blames reader writer status Device is stops e = stops

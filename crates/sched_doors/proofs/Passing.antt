@@ -124,18 +124,18 @@ well_made (Ok x) listed old mid new front cutter from to before read after consu
     let lent : drop consumed read ≡ t.taken = lent_is before read t.taken consumed all t.added in
     let first : take consumed read ≡ before = ap (take consumed) t.added ∙ take_at before t.taken consumed (sym all) in
     let made_of : HandsOn listed (before ++ t.taken) is_adapted going_on (before ++ handed) =
-        subst (λ (l : List ℕ). HandsOn listed l is_adapted going_on (before ++ handed)) t.added (subst (λ (l : List ℕ). HandsOn listed read is_adapted going_on (l ++ handed)) first made) in
+    subst (λ (l : List ℕ). HandsOn listed l is_adapted going_on (before ++ handed)) t.added (subst (λ (l : List ℕ). HandsOn listed read is_adapted going_on (l ++ handed)) first made) in
     let all_of : (f : Place) (g : Place) → f ≡ Front front → g ≡ Between → Passes listed old mid f g (begun_at f before) (begun_at g after) is_adapted going_on handed =
-        λ f g comes ends. subst (λ (f : Place). Passes listed old mid f g (begun_at f before) (begun_at g after) is_adapted going_on handed) (sym comes)
-            (subst (λ (g : Place). Passes listed old mid (Front front) g before (begun_at g after) is_adapted going_on handed) (sym ends) (record {
-              taken = t.taken;
-              consumed = t.consumed;
-              piece = ends_whole front cutter begun t.leads t.ends;
-              kept = refl;
-              hands_on = made_of;
-              whole = λ adapted. record { front = front; comes = refl; ends = refl };
-              end = λ empty. t.end (subst (λ (l : List ℕ). length l ≡ 0) lent (some empty));
-            })) in
+    λ f g comes ends. subst (λ (f : Place). Passes listed old mid f g (begun_at f before) (begun_at g after) is_adapted going_on handed) (sym comes)
+    (subst (λ (g : Place). Passes listed old mid (Front front) g before (begun_at g after) is_adapted going_on handed) (sym ends) (record {
+      taken = t.taken;
+      consumed = t.consumed;
+      piece = ends_whole front cutter begun t.leads t.ends;
+      kept = refl;
+      hands_on = made_of;
+      whole = λ adapted. record { front = front; comes = refl; ends = refl };
+      end = λ empty. t.end (subst (λ (l : List ℕ). length l ≡ 0) lent (some empty));
+    })) in
     subst (λ n. Passes listed old n from to (begun_at from before) (begun_at to after) is_adapted going_on handed) (sym same) (all_of from to comes ends)
 
 -- an object stays as it came

@@ -203,7 +203,7 @@ module _ {listed : Option Tree} {stream : List ℕ} {place : Place} {begun left 
       let object = o.octets ++ taken in
       let one = o.octets ++ handed in
       let all : joined o.made ++ one ≡ joined (o.made ++ one ∷ []) ++ [] =
-          sym (append-nil (joined (o.made ++ one ∷ [])) ∙ flat_map-append (λ (l : List ℕ). l) o.made (one ∷ []) ∙ ap (λ (l : List ℕ). joined o.made ++ l) (append-nil one)) in
+      sym (append-nil (joined (o.made ++ one ∷ [])) ∙ flat_map-append (λ (l : List ℕ). l) o.made (one ∷ []) ∙ ap (λ (l : List ℕ). joined o.made ++ l) (append-nil one)) in
       record {
         preamble = o.preamble;
         rest = o.rest;
@@ -279,7 +279,7 @@ front_step listed stream out left taken left_then begun begun_then (Long now) to
     let p = push o [] left refl [] at (false, [], (refl, refl)) in
     let same : p.cutter ≡ from = p.leads.none p.is_at.0 ∙ sym new in
     let q = front_piece p taken left_then split to begun_then p.is_at.0 (kept ∙ ap (λ (l : List ℕ). begun_at to (l ++ taken)) o.is_at.1)
-        (subst (λ (l : List ℕ). IsFrontPiece p.cutter l taken to) o.is_at.1 (subst (λ (c : Cutter). IsFrontPiece c begun taken to) (sym same) piece)) in
+    (subst (λ (l : List ℕ). IsFrontPiece p.cutter l taken to) o.is_at.1 (subst (λ (c : Cutter). IsFrontPiece c begun taken to) (sym same) piece)) in
     in_objects (subst (λ (l : List ℕ). InObjects listed stream to begun_then left_then (l ++ taken)) (append-nil out) q)
 
 -- a whole object, and octets of one that is too long

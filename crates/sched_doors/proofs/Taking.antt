@@ -168,9 +168,9 @@ ended_taken a b c from to next before mid after goes_on h t =
       leads = all.leads;
       ends = inl (next_from a b c h.taken next h.consumed t.ends.1);
       end = λ none. absurd (
-        let (first, second) = no_octets h.taken t.taken none in
-        let some = t.ends.0 (ap (λ (k : Cutter). is_whole k.seen) (h.leads.none first) ∙ goes_on) in
-        omega (arith, some, second));
+          let (first, second) = no_octets h.taken t.taken none in
+          let some = t.ends.0 (ap (λ (k : Cutter). is_whole k.seen) (h.leads.none first) ∙ goes_on) in
+          omega (arith, some, second));
     }
 
 -- an object that ended with the input

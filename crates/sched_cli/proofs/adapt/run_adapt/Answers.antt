@@ -1,7 +1,8 @@
 use Rattle.std.proofs.Common.{◌∙◌, ap, refl}
 use Rattle.cal_doors.specs.Adapted.{list_of}
+use Rattle.sched_doors.specs.Handing.{begun_at}
 use Rattle.sched_doors.specs.Streams.{none_passed}
-use Rattle.sched_cli.proofs.Adapted.{one_more, whole_pieces}
+use Rattle.sched_cli.proofs.Adapted.{one_more, whole_pieces, whole_so}
 use Rattle.sched_cli.proofs.adapt.run_adapt.Goals as goal
 
 pub loop-init : goal.loop-init
@@ -21,3 +22,7 @@ loop-preserved g c =
       p.listed ∙ i.3,
       λ silent. c.in-Ok.ensures.silent silent ∙ i.4 silent,
     )
+
+pub returns-in-Ok-false-clause-stream : goal.returns-in-Ok-false-clause-stream
+returns-in-Ok-false-clause-stream g c =
+    λ done start. whole_so _ _ _ _ _ _ _ _ (ap list_of c.loop.invariant.3) start (ap (λ p. begun_at p c.args.door.now.octets.items) start) c.loop.invariant.0 c.in-Ok-false.ensures.passes
