@@ -1,19 +1,36 @@
 -- What was handed on, piece by piece, and what was said of it.
-use Rattle.std.proofs.Common.{◌≡◌, ◌⊎◌, inl, inr, ℕ, Bool, true, false, List, [], ◌∷◌, ◌++◌, take, get_or, map, length, ◌<◌, ◌+◌, Option, sym, ap, subst, ◌∙◌, refl, arith, append-nil, append_assoc}
+use Rattle.std.proofs.Common.{◌≡◌, ◌⊎◌, inl, inr, ℕ, Bool, true, false, List, [], ◌∷◌, ◌++◌, take, get_or, map, length, ◌<◌, ◌+◌, Option, Result, Ok, Err, IfErr, sym, ap, subst, ◌∙◌, refl, arith, append-nil, append_assoc}
 use Rattle.std.proofs.KnownBytes.{Keeps-refl}
+use Rattle.std.specs.Io.KnownBytes.{Appends}
 use Rattle.profile.specs.text.Trees.{Tree}
 use Rattle.sched_doors.specs.Streams.{AtDoor, HandsOnAll, PassesAt, WritesStream, one_passed}
 use Rattle.sched_doors.specs.declared.place.Place.TheVariants.{Start}
 use Rattle.sched_doors.proofs.StreamLemmas.{whole_stream}
 use Rattle.sched_cli.specs.declared.adapt.AdaptFault.{AdaptFault}
 use Rattle.sched_cli.specs.declared.adapt.AdaptFault.TheVariants.{Device, Memory}
-use Rattle.sched_cli.specs.Adapting.{AdaptStopsFor, AdaptsFront, KeepsMarks, PassesOn, adapt_status, adapt_text, adapted_text, goes_on_text}
+use Rattle.sched_cli.specs.Adapting.{AdaptStopsFor, AdaptsFront, KeepsMarks, PassesOn, StopsPassing, StopsPutting, adapt_status, adapt_text, adapted_text, goes_on_text}
 use Rattle.std.specs.List.{flat_map}
 use Rattle.std.proofs.lemmas.List.{map-append, take_more}
 use Rattle.std.proofs.lemmas.Grind.{flat_map-append}
 use Rattle.sched_cli.specs.Commands.{IsStatusSaid, SaysLine}
 
 -- ---- a piece
+
+-- it was lent, and couldn't be written whole
+pub put_stops : {X : Type 0} (r : Result X AdaptFault) (listed : Option Tree) (old later : AtDoor) (is_adapted : Bool) (going_on : List (List ℕ)) (handed lent : List ℕ)
+    (output written : Option (List ℕ)) (failed : Bool) → lent ≡ handed → PassesAt listed old later is_adapted going_on handed → IfErr r (StopsPutting output written failed lent)
+    → IfErr r (StopsPassing listed old output written)
+put_stops (Ok x) listed old later is_adapted going_on handed lent output written failed same p stops = tt
+put_stops (Err Device) listed old later is_adapted going_on handed lent output written failed same p (blamed, (n, cut)) = inr (record {
+  later = later;
+  is_adapted = is_adapted;
+  going_on = going_on;
+  handed = handed;
+  passes = p;
+  count = n;
+  cut = subst (λ (l : List ℕ). Appends output written (take n l)) same cut;
+})
+put_stops (Err Memory) listed old later is_adapted going_on handed lent output written failed same p kept = kept
 
 -- ---- all pieces
 

@@ -20,11 +20,11 @@ pub record PassesOn (listed : Option Tree) (old new : AtDoor) (output written : 
   pub end : goes ≡ false → handed ≡ []
 
 -- all of it was, up to its end
-pub record AdaptsWhole (listed : Option Tree) (first last : AtDoor) (output written : Option (List ℕ)) : Type 0 where
+pub record AdaptsWhole (listed : Option Tree) (first stop : AtDoor) (output written : Option (List ℕ)) : Type 0 where
   pub before : AtDoor
   pub sofar : Option (List ℕ)
   pub all : HandsOnAll listed first before output sofar
-  pub last : PassesOn listed before last sofar written false
+  pub last : PassesOn listed before stop sofar written false
 
 -- a beginning of a piece was written
 pub record CutsNext (listed : Option Tree) (old : AtDoor) (output written : Option (List ℕ)) : Type 0 where
