@@ -1,7 +1,8 @@
-use Rattle.std.proofs.Common.{◌∙◌, ap, refl}
+use Rattle.std.proofs.Common.{◌∙◌, ap, refl, subst}
 use Rattle.cal_doors.specs.Adapted.{list_of}
 use Rattle.sched_doors.specs.Handing.{begun_at}
 use Rattle.sched_doors.specs.Streams.{none_passed}
+use Rattle.sched_cli.specs.Adapting.{PassesOn}
 use Rattle.sched_cli.proofs.Adapted.{one_more, whole_pieces, whole_so}
 use Rattle.sched_cli.proofs.adapt.run_adapt.Goals as goal
 
@@ -25,4 +26,5 @@ loop-preserved g c =
 
 pub returns-in-Ok-false-clause-stream : goal.returns-in-Ok-false-clause-stream
 returns-in-Ok-false-clause-stream g c =
-    λ done start. whole_so _ _ _ _ _ _ _ _ (ap list_of c.loop.invariant.3) start (ap (λ p. begun_at p c.args.door.now.octets.items) start) c.loop.invariant.0 c.in-Ok-false.ensures.passes
+    λ done start. whole_so _ _ _ _ _ _ _ _ (ap list_of c.loop.invariant.3) start (ap (λ p. begun_at p c.args.door.now.octets.items) start) c.loop.invariant.0
+    (subst (PassesOn _ _ _ _ _) c.in-Ok-false.field-0-test c.in-Ok-false.ensures.passes)
