@@ -1,6 +1,6 @@
 -- The zone that goes on where a table ends. For `Run::going_on`, `going_on` and `GeneralZone::beyond`.
 use Rattle.std.proofs.Common.{◌≡◌, ◌∙◌, refl, sym, ap, subst, zero, suc, ℕ, ◌+◌, ◌<◌, ◌≤◌, drop, length, get_or, arith, inl, inr, ◌⊎◌, List, [], ◌∷◌, ◌++◌, ℤ, pos, ◌≤ℤ◌}
-use Rattle.std.specs.Prelude.{◌↔◌, Contains}
+use Rattle.std.specs.Prelude.{◌↔◌}
 use Rattle.std.specs.Int.Signed.{◌<ℤ◌}
 use Rattle.std.proofs.lemmas.Int.{ints}
 use Rattle.std.proofs.lemmas.List.{map_push}
@@ -39,15 +39,18 @@ ended_by_count to run count e = not_ended to run (λ h. subst is_until e h)
 
 -- one of which UNTIL leaves out an onset stays too
 pub stays : (to until : ℤ) (run : Run) → run.end ≡ AtInstant until → HasOnsetIn run.observance until to → (x : Onset) → IsRunOnset run x ↔ IsOnsetOf to run x
-stays to until run ends h x = (λ is. inl is, λ is. elim is [
+stays to until run ends h x = (
+  λ is. inl is,
+  λ is. elim is [
     | inl on ↦ on
     | inr on ↦
-      let g = on.0 in
-      let e : until ≡ g.until = one_until run.end until g.until ends g.ends in
-      let l = g.none_left_out h.onset h.is h.up_to in
-      let later = h.later in
-      absurd (omega (arith, ints, e, l, later))
-  ])
+        let g = on.0 in
+        let e : until ≡ g.until = one_until run.end until g.until ends g.ends in
+        let l = g.none_left_out h.onset h.is h.up_to in
+        let later = h.later in
+        absurd (omega (arith, ints, e, l, later))
+  ],
+)
 
 -- one of which it leaves out none goes on
 pub goes_on : (to until : ℤ) (run other : Run) → other.observance ≡ run.observance → other.end ≡ Never → run.end ≡ AtInstant until

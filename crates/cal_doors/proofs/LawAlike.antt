@@ -1,13 +1,13 @@
 -- Where one zone in general goes on in two objects, it goes on alike. For `tables_go_on_alike`.
-use Rattle.std.proofs.Common.{◌≡◌, sym, subst, arith, inl, inr, true, false, Bool, List, Option, Some, None, ℤ, pos, ◌-ℤ◌, ◌+ℤ◌, ◌≤ℤ◌}
+use Rattle.std.proofs.Common.{◌≡◌, sym, subst, arith, inl, inr, true, Bool, List, Option, Some, None, ℤ, pos, ◌-ℤ◌, ◌≤ℤ◌}
 use Rattle.std.specs.Prelude.{ℕ}
 use Rattle.std.proofs.lemmas.Int.{ints}
 use Rattle.std.proofs.lemmas.Bool.{true≢false}
 use Rattle.profile.specs.text.Trees.{Tree}
-use Rattle.profile.specs.series.Zones.{Zone, Onset, InForce, Since, Until, ShowsBy, MeansBy}
+use Rattle.profile.specs.series.Zones.{Zone, Onset, InForce, Since, Until, MeansBy}
 use Rattle.profile.specs.series.GeneralZones.{Run, IsGeneralOnset, IsGeneralOffsetAt, MeansGenerally, IsSameFrom}
 use Rattle.profile.specs.series.GeneralZoneTexts.{SaysGeneralZone}
-use Rattle.profile.specs.doors.Adapting.{IsOnsetBeyond, IsGoneOn, EndsBefore, IsSameFor, always, as_long, beyond, TakesPlace}
+use Rattle.profile.specs.doors.Adapting.{IsGoneOn, EndsBefore, IsSameFor, always, as_long, beyond, TakesPlace}
 use Rattle.cal_doors.specs.Laws.{AgreeFrom}
 use Rattle.cal_doors.proofs.Stated.{one_end}
 

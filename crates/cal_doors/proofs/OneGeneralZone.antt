@@ -1,5 +1,5 @@
 -- A VTIMEZONE says at most one zone in general, and none where it has a fault. For `one_general_zone`.
-use Rattle.std.proofs.Common.{◌≡◌, ◌∙◌, ap, sym, refl, subst, inl, inr, ◌⊎◌, ℕ, zero, suc, ◌+◌, ◌<◌, ◌≤◌, ◌==◌, List, [], ◌∷◌, ◌++◌, length, map, codes, arith, ℤ, ◌+ℤ◌, ◌≤ℤ◌, true}
+use Rattle.std.proofs.Common.{◌≡◌, ◌∙◌, ap, sym, refl, subst, inl, inr, ℕ, zero, suc, ◌+◌, ◌≤◌, ◌==◌, List, [], ◌∷◌, ◌++◌, length, map, codes, arith, ℤ, ◌+ℤ◌, ◌≤ℤ◌, true}
 use Rattle.std.specs.Prelude.{◌↔◌, Option, Some, None, Contains}
 use Rattle.std.specs.List.{AllZip, flat_map, slice_split}
 use Rattle.std.proofs.lemmas.Bool.{true≢false}
@@ -8,9 +8,8 @@ use Rattle.profile.specs.text.Trees.{Tree}
 use Rattle.profile.specs.text.Values.{SpellsLocal}
 use Rattle.profile.specs.events.Properties.{lines_named, OccursMoreThanOnce, IsMissing, BothOrNeither, Says}
 use Rattle.profile.specs.series.Rules.{RuleText, Until, UntilDay, UntilLocal, UntilInstant, on_day_of_start, rule_of, rule_days_from}
-use Rattle.profile.specs.series.RuleTexts.{SpellsRule}
 use Rattle.profile.specs.series.Zones.{Observance, local_time}
-use Rattle.profile.specs.series.ZoneTexts.{parts_by, is_part, IsLocalLine, IsOffsetLine, YearRule, year_pattern, is_one_day, time_names}
+use Rattle.profile.specs.series.ZoneTexts.{parts_by, is_part, IsLocalLine, IsOffsetLine, YearRule, year_pattern, is_one_day}
 use Rattle.profile.specs.series.GeneralZones.{End, Never, AfterCount, AtInstant, Run}
 use Rattle.profile.specs.series.GeneralZoneTexts.{SaysStartAndOffsets, IsDatesLine, SaysDates, IsRunAt, without_end, IsEndOf, EndingRule, SpellsEnding, IsEndingLine, IsLastOnsetDay, SpellsOnsetDays, IsDaysLine, AreFirstRuns, once, yearly, listed, SaysRuns, PartsSayRuns, SaysGeneralZone, SpellsNoOnsets, RunsFault, missing, twice, fixed, bad_start, bad_from, bad_to, bad_date, two_rules, bad_rule, GeneralPartsFault, no_part, in_part, GeneralZoneFault}
 use Rattle.ical_tree.proofs.OneLine.{same_option}

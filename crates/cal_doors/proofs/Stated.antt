@@ -1,9 +1,9 @@
 -- What runs state of instants, and where a table ends. For `Run::last_stated`, `is_stated_late` and `later_stated`, and for `table_end`.
-use Rattle.std.proofs.Common.{◌≡◌, ◌∙◌, refl, sym, subst, arith, zero, suc, ℕ, ◌+◌, ◌<◌, ◌≤◌, drop, length, get_or, inl, inr, ◌⊎◌, List, [], ◌∷◌, ℤ, pos, ◌+ℤ◌, ◌-ℤ◌, ◌≤ℤ◌, MatchOption}
+use Rattle.std.proofs.Common.{◌≡◌, ◌∙◌, refl, sym, subst, arith, zero, suc, ℕ, ◌+◌, ◌<◌, ◌≤◌, drop, length, get_or, inl, inr, ◌⊎◌, List, [], ◌∷◌, ℤ, pos, ◌+ℤ◌, ◌≤ℤ◌, MatchOption}
 use Rattle.std.specs.Prelude.{Option, Some, None, Contains}
 use Rattle.std.specs.Int.Signed.{◌<ℤ◌}
 use Rattle.std.proofs.lemmas.Int.{ints}
-use Rattle.profile.specs.series.Zones.{Onset, IsOnset, IsFirstOf, IsLatest, NoneBegun, onset_at}
+use Rattle.profile.specs.series.Zones.{IsOnset, IsFirstOf, IsLatest, NoneBegun, onset_at}
 use Rattle.profile.specs.series.GeneralZones.{End, Never, AfterCount, AtInstant, Run}
 use Rattle.profile.specs.doors.Adapting.{tables_end, times_end, UntilAllows, StatesAt, by_onset, by_until, IsStatedLate, ReachesTablesEnd, IsTableEnd}
 use Rattle.cal_doors.specs.Runs.{run_of, runs_in, StatesNothingBy, IsLastStated}

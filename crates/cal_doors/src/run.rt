@@ -37,7 +37,7 @@ impl Run {
     ghost use Rattle.std.specs.Prelude.{◌↔◌, IsSome};
     ghost use Rattle.profile.specs.series.Zones as said;
     ghost use Rattle.profile.specs.series.GeneralZoneTexts.{IsRunAt};
-        ghost use Rattle.cal_zones.specs.Shapes.{occurs_yearly};
+    ghost use Rattle.cal_zones.specs.Shapes.{occurs_yearly};
     ghost use Rattle.cal_doors.specs.Ends.{end_of};
     ghost use Rattle.cal_doors.specs.Runs.{IsYearlyRun, run_of, AreUpTo, IsAlike, ReachTo, StatesNothingBy, IsLastStated, HasOnsetIn};
     ghost use Rattle.cal_doors.specs.declared.end.End.TheVariants.{Never, At};

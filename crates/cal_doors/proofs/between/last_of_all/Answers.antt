@@ -1,6 +1,6 @@
-use Rattle.std.proofs.Common.{rules, ◌≡◌, arith, to_z, of_z, w64, to_z-of_z}
+use Rattle.std.proofs.Common.{◌≡◌, arith, to_z, of_z, w64, to_z-of_z}
 use Rattle.std.proofs.lemmas.Int.{ints}
-use Rattle.cal_doors.specs.Runs.{run_of, runs_in}
+use Rattle.cal_doors.specs.Runs.{runs_in}
 use Rattle.cal_doors.proofs.Left.{at_index}
 use Rattle.cal_doors.proofs.Stated.{last_start, last_more, last_all}
 use Rattle.cal_doors.proofs.between.last_of_all.Goals as goal

@@ -1,5 +1,4 @@
-use Rattle.std.proofs.Common.{rules, ◌≡◌, refl, arith, to_z, of_z, w64, to_z-of_z}
-use Rattle.jiff_core.proofs.SignedLemmas.{signed_arith}
+use Rattle.std.proofs.Common.{to_z-of_z}
 use Rattle.cal_zones.specs.Onsets.{observance_of}
 use Rattle.cal_doors.proofs.GoingOn.{no_onset}
 use Rattle.cal_doors.proofs.run.Run.has_onset_in.Goals as goal

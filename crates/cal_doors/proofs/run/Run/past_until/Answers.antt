@@ -1,4 +1,4 @@
-use Rattle.std.proofs.Common.{refl, ap, to_z-of_z}
+use Rattle.std.proofs.Common.{ap, to_z-of_z}
 use Rattle.cal_zones.specs.Onsets.{observance_of}
 use Rattle.cal_doors.specs.Runs.{run_of}
 use Rattle.cal_doors.specs.Ends.{end_of}

@@ -1,4 +1,4 @@
-use Rattle.std.proofs.Common.{◌≡◌, ap, arith, to_z, of_z, w64, to_z-of_z}
+use Rattle.std.proofs.Common.{ap, arith, to_z-of_z}
 use Rattle.jiff_core.proofs.SignedLemmas.{signed_arith}
 use Rattle.cal_doors.specs.Runs.{run_of}
 use Rattle.cal_doors.specs.Ends.{end_of}

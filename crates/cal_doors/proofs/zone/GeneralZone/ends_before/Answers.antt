@@ -1,4 +1,4 @@
-use Rattle.std.proofs.Common.{rules, ◌≡◌, subst, arith, to_z, of_z, w64, to_z-of_z}
+use Rattle.std.proofs.Common.{rules, ◌≡◌, subst, to_z, of_z, w64, to_z-of_z}
 use Rattle.cal_doors.specs.Found.{general_of}
 use Rattle.profile.specs.doors.Adapting.{HasEnd}
 use Rattle.cal_doors.proofs.Stated.{one_end}
