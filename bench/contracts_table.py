@@ -67,7 +67,7 @@ CALLS = {
     },
     "door": {
         "cal_doors": ["GeneralZone::read", "date_at_start_adds_nothing", "GeneralZone::from_instant", "GeneralZone::between", "GeneralZone::table_end", "Run::once", "Run::yearly",
-                      "zones_are_general", "NamedZones::of", "NamedZones::named", "is_time_line", "adapt", "adapted_says_the_same", "zones_are_clocks", "starts_are_known", "returned", "split"],
+                      "one_general_zone", "zones_are_general", "NamedZones::of", "NamedZones::named", "is_time_line", "adapt", "adapted_says_the_same", "tables_go_on_alike", "zones_are_clocks", "starts_are_known", "returned", "split"],
         "sched_doors": ["Door::pass"],
         "sched_cli": ["run_adapt", "run_returned"],
     },

@@ -24,6 +24,7 @@ still_taken listed object name some other t = record {
   last = t.last;
   to_last = t.to_last;
   same = t.same;
+  sides = t.sides;
 }
 
 pub still_changes : {X Y : Type 0} (listed : Option Tree) (object : Tree) (uses : List (String X × Use)) (changes : List (String Y × Choice)) → AreChanges None object uses changes

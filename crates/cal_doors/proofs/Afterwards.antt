@@ -43,13 +43,16 @@ one_onset zone instant only from to z x listed at before after all once =
           let b = once.before in
           let e : x.instant ≡ y.instant = omega (arith, ints, r, l, b, at) in
           subst (IsGeneralOnset zone) (same_onset x y e (before ∙ sym once.before ∙ sym is.before) (after ∙ sym once.after ∙ sym is.after)) listed;
+      sides = tt;
     })
 
 pub two_rules : (zone : List Run) (instant : ℤ) (a b : Observance) (z : Zone) → z ≡ Pair a b → ((x : Onset) → IsGeneralOnset zone x → PassesPair instant a b x)
-    → ((x : Onset) → IsOnset a x → instant <ℤ x.instant → IsGeneralOnset zone x) → ((x : Onset) → IsOnset b x → instant <ℤ x.instant → IsGeneralOnset zone x) → HasOnsetsAfter zone instant z
-two_rules zone instant a b z e all one other = subst (HasOnsetsAfter zone instant) (sym e) (record {
+    → ((x : Onset) → IsOnset a x → instant <ℤ x.instant → IsGeneralOnset zone x) → ((x : Onset) → IsOnset b x → instant <ℤ x.instant → IsGeneralOnset zone x)
+    → a.offset_to <ℤ a.offset_from → HasOnsetsAfter zone instant z
+two_rules zone instant a b z e all one other back = subst (HasOnsetsAfter zone instant) (sym e) (record {
   there = λ x later is. all x is later;
   back = λ x later is. elim is [ inl h ↦ one x h later | inr h ↦ other x h later ];
+  sides = back;
 })
 
 pub turned : (zone : List Run) (instant : ℤ) (a b : Observance) → ((x : Onset) → IsGeneralOnset zone x → PassesPair instant a b x) → (x : Onset) → IsGeneralOnset zone x → PassesPair instant b a x

@@ -7,7 +7,7 @@ use Rattle.profile.specs.text.Trees.{Tree}
 use Rattle.profile.specs.series.Zones.{Zone}
 use Rattle.profile.specs.series.ZoneTexts.{SaysZone}
 use Rattle.profile.specs.events.ZonedTimes.{zone_named, SaysZoneOf}
-use Rattle.profile.specs.doors.Adapting.{SaysNothing, IsListedZone, IsSameFor}
+use Rattle.profile.specs.doors.Adapting.{SaysNothing, IsListedZone, IsSameFor, SetsBack}
 use Rattle.profile.specs.series.GeneralZones.{Run}
 use Rattle.profile.specs.series.GeneralZoneTexts.{SaysGeneralZone}
 use Rattle.cal_zones.specs.Kinds.{zone_of}
@@ -60,8 +60,8 @@ nothing_needed listed object name own e said = is_readable object name own e sai
 pub change_needed : (listed : Option Tree) (object : Tree) (name : List ℕ) (own : Option (Bor Component)) (u : Use) (zone : List Run) (c : Choice)
     → option_map tree_at own ≡ zone_named name object → ((said : Zone) → SaysZoneOf (option_map tree_at own) said → ⊥) → IsUseFor object name u
     → ((other : Tree) → option_map tree_at own ≡ zone_named name other → IsMeantZone listed other name zone) → IsSameFor zone (zone_of c.zone) c.goes_on u.first u.last
-    → IsNeeded listed object name (Change c)
-change_needed listed object name own u zone c e none about means same =
+    → SetsBack (zone_of c.zone) → IsNeeded listed object name (Change c)
+change_needed listed object name own u zone c e none about means same sides =
     let m = means object e in (
       is_unread object name own e none,
       record {
@@ -74,5 +74,6 @@ change_needed listed object name own u zone c e none about means same =
         last = u.last;
         to_last = about.to_last;
         same = same;
+        sides = sides;
       },
     )

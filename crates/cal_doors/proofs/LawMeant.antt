@@ -13,11 +13,12 @@ use Rattle.profile.specs.series.GeneralZones.{Run, IsGeneralOffsetAt, MeansGener
 use Rattle.profile.specs.series.GeneralZoneTexts.{SaysGeneralZone}
 use Rattle.profile.specs.events.EventRules.{IsOnDay}
 use Rattle.profile.specs.doors.Uses.{IsLineIn, SaysLocal, EventBeginsBy, EventEndsBy, LastsDays}
-use Rattle.profile.specs.doors.Adapting.{IsAdapted, IsZoneGiven, TakesPlace, IsSameFor, always, as_long, beyond, IsTableEnd}
+use Rattle.profile.specs.doors.Adapting.{IsAdapted, IsZoneGiven, TakesPlace, IsSameFor, always, as_long, beyond, IsTableEnd, IsGoneOn}
 use Rattle.profile.specs.doors.OnClocks.{SaysSameAs, IsDaysLaterOn}
 use Rattle.cal_doors.specs.Laws.{IsMeantAfter, SaysTheSame, SaysSameUpTo, SaysTheSameUpTo}
+use Rattle.cal_doors.proofs.LawClocks.{AreNear}
 use Rattle.cal_doors.proofs.LawEvents.{OneRule, says_same, start_from, later_there}
-use Rattle.cal_doors.proofs.LawOffsets.{general_near, general_shown, zone_near, zone_shown}
+use Rattle.cal_doors.proofs.LawOffsets.{general_near, general_shown, beyond_near, beyond_shown, zone_near, zone_shown}
 
 some_none : (end : ℤ) → Some end ≡ None → ⊥
 some_none end e = subst (λ (o : Option ℤ). elim o as (λ _. Type 0) [ None ↦ ⊥ | Some _ ↦ Unit {0} ]) e tt
@@ -28,13 +29,22 @@ none_is u e = subst (λ (o : Option ℤ). elim o as (λ _. Type 0) [ None ↦ Un
 module _ (meant part : Tree) (runs : List Run) (zone : Zone) (general : SaysGeneralZone meant runs) (read : SaysZone part zone) (one_rule : OneRule)
     (first : ℤ) (last : Option ℤ) (name : List ℕ) (lines : List (List ℕ)) (begins : EventBeginsBy name lines first)
     (ends : (end : ℤ) → last ≡ Some end → EventEndsBy lines end) where
-  from_first : IsSameFrom runs zone (first -ℤ pos 86_399) → SaysSameAs runs zone name lines
-  from_first same =
-      says_same (MeansGenerally runs) (ShowsBy (IsGeneralOffsetAt runs)) (Means zone) (Shows zone) (general_near meant runs general) (zone_near part zone read) first None
+  -- so it does by any clocks that are less than a day from UTC
+  from_first_by : (clocks : List Run) → AreNear (MeansGenerally clocks)
+      → ((t local : ℤ) → ShowsBy (IsGeneralOffsetAt clocks) t local → (t ≤ℤ (local +ℤ pos 86_399)) × (local ≤ℤ (t +ℤ pos 86_399)))
+      → IsSameFrom clocks zone (first -ℤ pos 86_399) → SaysSameAs clocks zone name lines
+  from_first_by clocks near shown same =
+      says_same (MeansGenerally clocks) (ShowsBy (IsGeneralOffsetAt clocks)) (Means zone) (Shows zone) near (zone_near part zone read) first None
       (λ local t c. let f = c.0 in (same.means_there local t (omega (arith, ints, f)), same.means_back local t (omega (arith, ints, f))))
-      (λ t local s. (general_shown meant runs general t local s).0) (λ t local s. (zone_shown part zone read t local s).0)
+      (λ t local s. (shown t local s).0) (λ t local s. (zone_shown part zone read t local s).0)
       (λ _ t local f. (λ s. (s.0, same.offset_there t s.0 (omega (arith, ints, f)) s.1, s.2), λ s. (s.0, same.offset_back t s.0 (omega (arith, ints, f)) s.1, s.2)))
       one_rule name lines begins (λ end e. absurd (none_is end e))
+
+  from_first : IsSameFrom runs zone (first -ℤ pos 86_399) → SaysSameAs runs zone name lines
+  from_first = from_first_by runs (general_near meant runs general) (general_shown meant runs general)
+
+  as_it_goes_on : (to : ℤ) (longer : List Run) → IsGoneOn runs to longer → IsSameFrom longer zone (first -ℤ pos 86_399) → SaysSameAs longer zone name lines
+  as_it_goes_on to longer gone = from_first_by longer (beyond_near meant runs general to longer gone) (beyond_shown meant runs general to longer gone)
 
   while_it_lasts : (end : ℤ) → last ≡ Some end → IsSameBetween runs zone (first -ℤ pos 86_399) (end +ℤ pos 86_399) → SaysSameAs runs zone name lines
   while_it_lasts end e same =
@@ -45,8 +55,12 @@ module _ (meant part : Tree) (runs : List Run) (zone : Zone) (general : SaysGene
       (same.means_there local t (omega (arith, ints, f)) (omega (arith, ints, l)), same.means_back local t (omega (arith, ints, f)) (omega (arith, ints, l))))
       (λ t local s. (general_shown meant runs general t local s).0) (λ t local s. (zone_shown part zone read t local s).0) (λ none. absurd (some_none end (sym e ∙ none))) one_rule name lines begins ends
 
-  up_to_end : (to : ℤ) → IsTableEnd runs to → IsSameBetween runs zone (first -ℤ pos 86_399) to → SaysSameUpTo runs zone name lines
-  up_to_end to ended same = record {
+  up_to_end : (to : ℤ) (longer : List Run) → IsTableEnd runs to → IsSameBetween runs zone (first -ℤ pos 86_399) to → IsGoneOn runs to longer
+      → IsSameFrom longer zone (first -ℤ pos 86_399) → SaysSameUpTo runs zone name lines
+  up_to_end to longer ended same gone on = record {
+    longer = longer;
+    gone_on = gone;
+    on = as_it_goes_on to longer gone on;
     to = to;
     table_end = ended;
     times = λ line local t is says upto. meaning local t (begins.times line local is says) upto;
@@ -83,14 +97,14 @@ module _ (meant part : Tree) (runs : List Run) (zone : Zone) (general : SaysGene
       )
 
   pub says_so : IsSameFor runs zone false first last → SaysSameAs runs zone name lines
-  says_so (always exact same) = from_first same
+  says_so (always exact known same) = from_first same
   says_so (as_long end exact e same) = while_it_lasts end e same
-  says_so (beyond to does ended same) = absurd (true≢false (sym does))
+  says_so (beyond to longer does ended same gone on) = absurd (true≢false (sym does))
 
   pub says_so_up_to : IsSameFor runs zone true first last → SaysSameUpTo runs zone name lines
-  says_so_up_to (always exact same) = absurd (true≢false exact)
+  says_so_up_to (always exact known same) = absurd (true≢false exact)
   says_so_up_to (as_long end exact e same) = absurd (true≢false exact)
-  says_so_up_to (beyond to does ended same) = up_to_end to ended same
+  says_so_up_to (beyond to longer does ended same gone on) = up_to_end to longer ended same gone on
 
 -- ---- what was adapted
 

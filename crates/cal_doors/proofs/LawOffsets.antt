@@ -13,6 +13,7 @@ use Rattle.profile.specs.series.Zones.{Observance, Zone, Constant, Single, Pair,
 use Rattle.profile.specs.series.ZoneTexts.{SaysZone, SaysPartTimes, HasForm, IsOffsetLine, constant, single, pair}
 use Rattle.profile.specs.series.GeneralZones.{Run, Never, IsGeneralOnset, IsGeneralOffsetAt, MeansGenerally}
 use Rattle.profile.specs.series.GeneralZoneTexts.{SaysStartAndOffsets, AreFirstRuns, once, yearly, listed, IsRunAt, SaysRuns, SaysGeneralZone}
+use Rattle.profile.specs.doors.Adapting.{IsGoneOn}
 use Rattle.cal_doors.proofs.LawClocks.{AreNear}
 
 -- ---- offsets that are spelled
@@ -129,6 +130,25 @@ module _ (t : Tree) (runs : List Run) (says : SaysGeneralZone t runs) where
 
   pub general_shown : (i local : ℤ) → ShowsBy (IsGeneralOffsetAt runs) i local → (i ≤ℤ (local +ℤ pos 86_399)) × (local ≤ℤ (i +ℤ pos 86_399))
   general_shown i local (p, at, e) = shown_near i local p (in_force_short (IsGeneralOnset runs) general_onset i p at) e
+
+-- ---- those of a zone that goes on
+
+module _ (t : Tree) (runs : List Run) (says : SaysGeneralZone t runs) (to : ℤ) (longer : List Run) (gone : IsGoneOn runs to longer) where
+  beyond_onset : (x : Onset) → IsGeneralOnset longer x → IsOffset x.before × IsOffset x.after
+  beyond_onset x is =
+      let b = (gone x).0 is in
+      let s = general_short t runs says b.0 b.1 in
+      elim b.2.is [
+        | inl on ↦ (subst IsOffset (sym on.is.before) s.0, subst IsOffset (sym on.is.after) s.1)
+        | inr on ↦ (subst IsOffset (sym on.1.before) s.0, subst IsOffset (sym on.1.after) s.1)
+      ]
+
+  pub beyond_near : AreNear (MeansGenerally longer)
+  beyond_near =
+      near_by (IsGeneralOffsetAt longer) (IsGeneralOnset longer) (λ i p. in_force_short (IsGeneralOnset longer) beyond_onset i p) (λ x is. (beyond_onset x is).0)
+
+  pub beyond_shown : (i local : ℤ) → ShowsBy (IsGeneralOffsetAt longer) i local → (i ≤ℤ (local +ℤ pos 86_399)) × (local ≤ℤ (i +ℤ pos 86_399))
+  beyond_shown i local (p, at, e) = shown_near i local p (in_force_short (IsGeneralOnset longer) beyond_onset i p at) e
 
 -- ---- those of a zone that a room reads
 

@@ -40,6 +40,24 @@ none x (r, (k, w, e), on) = omega (arith, w)
 pub left_end : (Q : Onset → Type 0) (runs : List kept.Run) (i : ℕ) → length runs ≤ i → Left Q runs i → (x : Onset) → IsGeneralOnset (runs_in runs) x → Q x
 left_end Q runs i w left = left (λ x is. absurd (none x (subst (λ l. IsGeneralOnset (runs_in l) x) (drop_all i runs w) is)))
 
+-- where it holds of the runs that are left, it holds of all
+abbrev pub RunsLeft : (Run → Type 0) → List kept.Run → ℕ → Type 0
+RunsLeft P runs i = ((r : Run) → Contains (runs_in (drop i runs)) r → P r) → (r : Run) → Contains (runs_in runs) r → P r
+
+one_run_more : (P : Run → Type 0) (run : Run) (rest : List Run) → P run → ((r : Run) → Contains rest r → P r) → (r : Run) → Contains (run ∷ rest) r → P r
+one_run_more P run rest here later r (zero, w, e) = subst P e here
+one_run_more P run rest here later r (suc k, w, e) = later r (k, omega (arith, w), e)
+
+pub runs_more : (P : Run → Type 0) (runs : List kept.Run) (i : ℕ) (run : kept.Run) → i < length runs → run ≡ get_or runs i run → P (run_of run) → RunsLeft P runs i → RunsLeft P runs (i + 1)
+runs_more P runs i run w e here left later =
+    left (λ r is. one_run_more P (run_of run) (runs_in (drop (i + 1) runs)) here later r (subst (λ l. Contains (runs_in l) r) (at_place runs i run w e) is))
+
+no_run : (r : Run) → Contains [] r → ⊥
+no_run r (k, w, e) = omega (arith, w)
+
+pub runs_end : (P : Run → Type 0) (runs : List kept.Run) (i : ℕ) → length runs ≤ i → RunsLeft P runs i → (r : Run) → Contains (runs_in runs) r → P r
+runs_end P runs i w left = left (λ r is. absurd (no_run r (subst (λ l. Contains (runs_in l) r) (drop_all i runs w) is)))
+
 -- the onsets of an observance after an instant and up to another are those of a zone
 abbrev pub AreThere : List Run → Observance → ℤ → ℤ → Type 0
 AreThere zone whole from reach = (x : Onset) → IsOnset whole x → from <ℤ x.instant → x.instant ≤ℤ reach → IsGeneralOnset zone x

@@ -5,6 +5,8 @@ pub mod Reaches
 pub mod Left
 pub mod UpTo
 pub mod RunsUpTo
+pub mod GoingOn
+pub mod Stated
 pub mod Offsets
 pub mod Afterwards
 pub mod Same
@@ -12,6 +14,7 @@ pub mod Still
 pub mod General
 pub mod Again
 pub mod RuleDays
+pub mod OneGeneralZone
 pub mod PartSays
 pub mod NamedTables
 pub mod UsesScans
@@ -35,5 +38,6 @@ pub mod LawClocks
 pub mod LawEvents
 pub mod LawOffsets
 pub mod LawMeant
+pub mod LawAlike
 pub mod LawZoneClocks
 pub mod LawStarts

@@ -171,10 +171,11 @@ module _ (start from : ℤ) (text : List ℕ) (first : ℕ) (rule : RuleText) (i
   }
 
   pub days_said : (o : Observance) (end : End) (last : ℕ) (days : List ℕ) → HasStart start from o → IsEndOf from rule.count rule.until end → IsLastOnsetDay o end last → last ≤ o.day + 14_610
-      → AreListedDays rule first last days → SpellsOnsetDays o text days
-  days_said o end last days has ends allowed near (are, few) = record {
+      → ((each : YearRule) → is_one_day (without_end rule) each ≡ true → ⊥) → AreListedDays rule first last days → SpellsOnsetDays o text days
+  days_said o end last days has ends allowed near none (are, few) = record {
     rule = is.spelled_rule;
     spelled = is.spelled;
+    not_one_day = λ each one. none each (subst (λ (t : RuleText). is_one_day (without_end t) each ≡ true) (rule_at o has) one);
     end = end;
     ends = ends_as o end has (ends_there end ends);
     last = last;
@@ -304,14 +305,14 @@ in_years day second low high w = (omega (arith, signed_arith, low, high, w), ome
 
 module _ (start from : ℤ) (text : List ℕ) (first : ℕ) (rule : RuleText) (is : IsRuleOf start from text first rule) where
   pub days_to_last : (o : Observance) (end : End) (last : Last) (days : List ℕ) → HasStart start from o → IsEndOf from rule.count rule.until end → IsLastFrom start from end last
-      → AreDaysTo rule first last days → SpellsOnsetDays o text days
-  days_to_last o end Never days has ends until h = absurd h
-  days_to_last o end Before days has ends until h =
+      → ((each : YearRule) → is_one_day (without_end rule) each ≡ true → ⊥) → AreDaysTo rule first last days → SpellsOnsetDays o text days
+  days_to_last o end Never days has ends until none h = absurd h
+  days_to_last o end Before days has ends until none h =
       let early = until o has in
       let before : early.0 < first = omega (arith, early.2, is.here o has) in
-      days_said start from text first rule is o end early.0 days has ends early.1 (omega (arith, early.2)) (subst (AreListedDays rule first early.0) (sym h) (days_early rule first early.0 before))
-  days_to_last o end Far days has ends until h = absurd h
-  days_to_last o end (On last) days has ends until h = let there = until o has in days_said start from text first rule is o end (day_index last) days has ends there.0 there.1 h
+      days_said start from text first rule is o end early.0 days has ends early.1 (omega (arith, early.2)) none (subst (AreListedDays rule first early.0) (sym h) (days_early rule first early.0 before))
+  days_to_last o end Far days has ends until none h = absurd h
+  days_to_last o end (On last) days has ends until none h = let there = until o has in days_said start from text first rule is o end (day_index last) days has ends there.0 there.1 none h
 
   pub no_days_to_last : (o : Observance) (end : End) (last : Last) → HasStart start from o → IsEndOf from rule.count rule.until end → IsLastFrom start from end last → AreNoDaysTo rule first last
       → (days : List ℕ) → SpellsOnsetDays o text days → ⊥

@@ -1,14 +1,13 @@
--- Runs that are the same up to an instant. For `going_on`, `ending` and `last_of_all`.
-use Rattle.std.proofs.Common.{◌≡◌, ◌∙◌, refl, sym, ap, subst, zero, suc, ℕ, ◌+◌, ◌<◌, ◌≤◌, drop, length, get_or, arith, inl, inr, ◌⊎◌, List, [], ◌∷◌, ◌++◌, ℤ, pos, ◌+ℤ◌, ◌≤ℤ◌}
-use Rattle.std.specs.Prelude.{◌↔◌, Option, Some, None}
+-- Runs that are the same up to an instant. For `ending`, and for loops over runs.
+use Rattle.std.proofs.Common.{◌≡◌, ◌∙◌, refl, sym, ap, subst, zero, suc, ℕ, ◌+◌, ◌<◌, ◌≤◌, drop, length, get_or, arith, inl, inr, ◌⊎◌, List, [], ◌∷◌, ◌++◌, ℤ, ◌≤ℤ◌}
+use Rattle.std.specs.Prelude.{◌↔◌}
 use Rattle.std.specs.Int.Signed.{◌<ℤ◌}
 use Rattle.std.proofs.lemmas.Int.{ints}
 use Rattle.std.proofs.lemmas.List.{drop_all, drop_more, map_push}
 use Rattle.std.proofs.lemmas.List.Elements.{Contains-push, Contains-append_left, Contains-push_cases}
 use Rattle.profile.specs.series.Zones.{Onset}
 use Rattle.profile.specs.series.GeneralZones.{Run, IsRunOnset, IsGeneralOnset}
-use Rattle.profile.specs.doors.Adapting.{times_end, IsOverAt}
-use Rattle.cal_doors.specs.Runs.{run_of, runs_in, AreUpTo}
+use Rattle.cal_doors.specs.Runs.{run_of, runs_in}
 use Rattle.cal_doors.specs.declared.run.Run as kept
 use Rattle.cal_doors.specs.Between.{IsSameRunUpTo, IsSameEndUpTo, AreSameUpTo}
 
@@ -33,16 +32,16 @@ of_first run rest x on = (run, (zero, omega arith, refl), on)
 of_rest : (run : Run) (rest : List Run) (x : Onset) → IsGeneralOnset rest x → IsGeneralOnset (run ∷ rest) x
 of_rest run rest x (r, (k, w, e), on) = (r, (suc k, omega (arith, w), e), on)
 
-no_onset_of_none : (x : Onset) → IsGeneralOnset [] x → ⊥
+pub no_onset_of_none : (x : Onset) → IsGeneralOnset [] x → ⊥
 no_onset_of_none x (r, (k, w, e), on) = omega (arith, w)
 
-of_pushed : (done : List Run) (run : Run) (x : Onset) → IsRunOnset run x → IsGeneralOnset (done ++ run ∷ []) x
+pub of_pushed : (done : List Run) (run : Run) (x : Onset) → IsRunOnset run x → IsGeneralOnset (done ++ run ∷ []) x
 of_pushed done run x on = (run, Contains-push done run, on)
 
-of_done : (done : List Run) (run : Run) (x : Onset) → IsGeneralOnset done x → IsGeneralOnset (done ++ run ∷ []) x
+pub of_done : (done : List Run) (run : Run) (x : Onset) → IsGeneralOnset done x → IsGeneralOnset (done ++ run ∷ []) x
 of_done done run x (r, in_done, on) = (r, Contains-append_left done (run ∷ []) r in_done, on)
 
-done_or_pushed : (done : List Run) (run : Run) (x : Onset) → IsGeneralOnset (done ++ run ∷ []) x → IsGeneralOnset done x ⊎ IsRunOnset run x
+pub done_or_pushed : (done : List Run) (run : Run) (x : Onset) → IsGeneralOnset (done ++ run ∷ []) x → IsGeneralOnset done x ⊎ IsRunOnset run x
 done_or_pushed done run x (r, among, on) = elim (Contains-push_cases done run r among) [
   | inl old ↦ inl (r, old, on)
   | inr e ↦ inr (subst (λ s. IsRunOnset s x) (sym e) on)
@@ -94,45 +93,13 @@ parted_later to zone done rest run later parted x l = (
   ]),
 )
 
--- ---- the last onset
-
--- no onset of a zone before the end of times in 32 bits is later than that, but for those of the runs that are left
-abbrev pub AreOverButFor : List Run → ℤ → List Run → Type 0
-AreOverButFor zone last rest = (x : Onset) → IsGeneralOnset zone x → x.instant <ℤ times_end → (x.instant ≤ℤ last) ⊎ IsGeneralOnset rest x
-
-pub over_end : (zone : List Run) (last : ℤ) → AreOverButFor zone last [] → IsOverAt zone last
-over_end zone last over x is before = elim (over x is before) [ inl l ↦ l | inr on ↦ absurd (no_onset_of_none x on) ]
-
-pub over_more : (zone rest : List Run) (run : Run) (last new : ℤ) → ((x : Onset) → IsRunOnset run x → x.instant <ℤ times_end → x.instant ≤ℤ new) → last ≤ℤ new
-    → AreOverButFor zone last (run ∷ rest) → AreOverButFor zone new rest
-over_more zone rest run last new ends l over x is before = elim (over x is before) [
-  | inl old ↦ inl (omega (arith, ints, old, l))
-  | inr h ↦ elim (first_or_rest run rest x h) [
-    | inl on ↦ inl (ends x on before)
-    | inr on ↦ inr on
-  ]
-]
-
--- what a bound up to an instant says of a run's onsets before that end, where the instant is at most a second before it
-pub bounded : (run : Run) (instant bound new : ℤ) (found : Option ℤ) → found ≡ Some bound → AreUpTo run instant found → times_end ≤ℤ (instant +ℤ pos 1) → bound ≤ℤ new
-    → (x : Onset) → IsRunOnset run x → x.instant <ℤ times_end → x.instant ≤ℤ new
-bounded run instant bound new found is upto late m x on before =
-    let l = subst (AreUpTo run instant) is upto x on (omega (arith, ints, before, late)) in
-    omega (arith, ints, l, m)
-
-pub unbounded : (run : Run) (instant new : ℤ) (found : Option ℤ) → found ≡ None → AreUpTo run instant found → times_end ≤ℤ (instant +ℤ pos 1)
-    → (x : Onset) → IsRunOnset run x → x.instant <ℤ times_end → x.instant ≤ℤ new
-unbounded run instant new found is upto late x on before =
-    let l = subst (AreUpTo run instant) is upto x on in
-    absurd (omega (arith, ints, l, before, late))
-
 -- ---- the loops over kept runs
 
 module _ (runs : List kept.Run) (i : ℕ) where
-  left_at : (run : kept.Run) → i < length runs → run ≡ get_or runs i run → runs_in (drop i runs) ≡ run_of run ∷ runs_in (drop (i + 1) runs)
+  pub left_at : (run : kept.Run) → i < length runs → run ≡ get_or runs i run → runs_in (drop i runs) ≡ run_of run ∷ runs_in (drop (i + 1) runs)
   left_at run w e = ap runs_in (drop_more runs i run w ∙ ap (λ y. y ∷ drop (i + 1) runs) (sym e))
 
-  left_none : length runs ≤ i → runs_in (drop i runs) ≡ []
+  pub left_none : length runs ≤ i → runs_in (drop i runs) ≡ []
   left_none w = ap runs_in (drop_all i runs w)
 
   pub made_more : (to : ℤ) (done more : List kept.Run) (run other : kept.Run) → i < length runs → run ≡ get_or runs i run → more ≡ done ++ other ∷ []
@@ -149,11 +116,3 @@ module _ (runs : List kept.Run) (i : ℕ) where
 
   pub made_all : (to : ℤ) (done : List kept.Run) → length runs ≤ i → AreParted to (runs_in runs) (runs_in done) (runs_in (drop i runs)) → AreSameUpTo to (runs_in runs) (runs_in done)
   made_all to done w parted = parted_end to (runs_in runs) (runs_in done) (subst (AreParted to (runs_in runs) (runs_in done)) (left_none w) parted)
-
-  pub last_more : (last new : ℤ) (run : kept.Run) → i < length runs → run ≡ get_or runs i run → ((x : Onset) → IsRunOnset (run_of run) x → x.instant <ℤ times_end → x.instant ≤ℤ new)
-      → last ≤ℤ new → AreOverButFor (runs_in runs) last (runs_in (drop i runs)) → AreOverButFor (runs_in runs) new (runs_in (drop (i + 1) runs))
-  last_more last new run w e ends l over =
-      over_more (runs_in runs) (runs_in (drop (i + 1) runs)) (run_of run) last new ends l (subst (AreOverButFor (runs_in runs) last) (left_at run w e) over)
-
-  pub last_all : (last : ℤ) → length runs ≤ i → AreOverButFor (runs_in runs) last (runs_in (drop i runs)) → IsOverAt (runs_in runs) last
-  last_all last w over = over_end (runs_in runs) last (subst (AreOverButFor (runs_in runs) last) (left_none w) over)

@@ -1,12 +1,16 @@
 -- The VEVENTs among components, while these are gone through.
-use Rattle.std.proofs.Common.{◌≡◌, ◌∙◌, ℕ, ◌<◌, Bool, true, false, cond, List, [], ◌∷◌, ◌++◌, ◌+◌, map, filter, drop, length, get_or, sym, refl, ap, subst}
+use Rattle.std.proofs.Common.{◌≡◌, ◌∙◌, ℕ, ◌<◌, Bool, true, false, cond, List, [], ◌∷◌, ◌++◌, ◌+◌, map, filter, codes, drop, length, get_or, sym, refl, ap, subst}
 use Rattle.std.specs.Prelude.{Contains, All, Vec}
 use Rattle.std.specs.List.{AllZip}
 use Rattle.std.proofs.lemmas.List.Elements.{All-nil, All-cons, All-head, All-tail, All-weaker, All-get_or, All-contains_itself, All-contains}
 use Rattle.ical_tree.specs.declared.component.Component.{Component}
-use Rattle.ical_tree.specs.Tree.{component_lines}
+use Rattle.ical_tree.specs.Tree.{component_lines, component_children, tree_of}
+use Rattle.ical_tree.proofs.TreeOfLemmas.{tree_of-name, tree_of-inside}
+use Rattle.profile.specs.text.Lines.{is_same_name}
+use Rattle.profile.specs.text.Trees.{Tree, tree_name}
+use Rattle.profile.specs.doors.Returning.{event_trees}
 use Rattle.ical_tree.proofs.OneLine.{at_place}
-use Rattle.cal_doors.specs.Told.{is_event, events_among, IsEventFirst, BeginsWithEvent}
+use Rattle.cal_doors.specs.Told.{is_event, events_among, trees_among, IsEventFirst, BeginsWithEvent}
 
 abbrev Event : Type 0
 Event = List (List ℕ)
@@ -106,26 +110,47 @@ unended : (xs : List (List ℕ)) → xs ++ [] ≡ xs
 unended [] = refl
 unended (x ∷ xs) = ap (λ l. x ∷ l) (unended xs)
 
-module _ {Z : Type 0} (R : Event → List ℕ → Type 0) (all : List Event) where
+event_tree_first : (c : Component) (cs : List Component) → is_event c ≡ true → trees_among (c ∷ cs) ≡ tree_of c ∷ trees_among cs
+event_tree_first c cs is = ap (λ b. map tree_of (cond b (c ∷ filter is_event cs) (filter is_event cs))) is
+
+other_tree_first : (c : Component) (cs : List Component) → is_event c ≡ false → trees_among (c ∷ cs) ≡ trees_among cs
+other_tree_first c cs is = ap (λ b. map tree_of (cond b (c ∷ filter is_event cs) (filter is_event cs))) is
+
+-- the VEVENTs of an object are those among its components
+one_tree : (p q : Bool) (c : Component) (t : Tree) (cs : List Component) (ts : List Tree) → p ≡ q → t ≡ tree_of c → ts ≡ map tree_of cs
+    → cond p (t ∷ ts) ts ≡ map tree_of (cond q (c ∷ cs) cs)
+one_tree p true c t cs ts e here later = ap (λ b. cond b (t ∷ ts) ts) e ∙ ap (λ x. x ∷ ts) here ∙ ap (λ xs. tree_of c ∷ xs) later
+one_tree p false c t cs ts e here later = ap (λ b. cond b (t ∷ ts) ts) e ∙ later
+
+trees_as : (cs : List Component) → filter (λ part. is_same_name (tree_name part) (codes "VEVENT")) (map tree_of cs) ≡ trees_among cs
+trees_as [] = refl
+trees_as (c ∷ cs) =
+    one_tree (is_same_name (tree_name (tree_of c)) (codes "VEVENT")) (is_event c) c (tree_of c) (filter is_event cs)
+    (filter (λ part. is_same_name (tree_name part) (codes "VEVENT")) (map tree_of cs)) (ap (λ n. is_same_name n (codes "VEVENT")) (tree_of-name c)) refl (trees_as cs)
+
+pub trees_are : (c : Component) → event_trees (tree_of c) ≡ trees_among (component_children c)
+trees_are c = ap (filter (λ part. is_same_name (tree_name part) (codes "VEVENT"))) (tree_of-inside c) ∙ trees_as (component_children c)
+
+module _ {Z : Type 0} (R : Tree → List ℕ → Type 0) (all : List Tree) where
   -- what comes for those that are left makes it one for each
   abbrev pub MadeSofar : List Component → List (Vec ℕ Z) → Type 0
-  MadeSofar rest made = (more : List (List ℕ)) → AllZip R (events_among rest) more → AllZip R all (octets_each made ++ more)
+  MadeSofar rest made = (more : List (List ℕ)) → AllZip R (trees_among rest) more → AllZip R all (octets_each made ++ more)
 
-  pub none_made : (rest : List Component) (made : List (Vec ℕ Z)) → made ≡ [] → events_among rest ≡ all → MadeSofar rest made
+  pub none_made : (rest : List Component) (made : List (Vec ℕ Z)) → made ≡ [] → trees_among rest ≡ all → MadeSofar rest made
   none_made rest made none is more h = subst (λ m. AllZip R all (octets_each m ++ more)) (sym none) (subst (λ l. AllZip R l more) is h)
 
   mapped : (old : List (Vec ℕ Z)) (v : Vec ℕ Z) (more : List (List ℕ)) → octets_each (old ++ v ∷ []) ++ more ≡ octets_each old ++ v.items ∷ more
   mapped [] v more = refl
   mapped (x ∷ old) v more = ap (λ l. x.items ∷ l) (mapped old v more)
 
-  pub one_made : (rest later : List Component) (c : Component) (old new : List (Vec ℕ Z)) (v : Vec ℕ Z) → rest ≡ c ∷ later → is_event c ≡ true → new ≡ old ++ v ∷ [] → R (component_lines c) (v.items)
+  pub one_made : (rest later : List Component) (c : Component) (old new : List (Vec ℕ Z)) (v : Vec ℕ Z) → rest ≡ c ∷ later → is_event c ≡ true → new ≡ old ++ v ∷ [] → R (tree_of c) (v.items)
       → MadeSofar rest old → MadeSofar later new
   one_made rest later c old new v is event made r sofar more h =
       subst (λ m. AllZip R all (octets_each m ++ more)) (sym made) (subst (AllZip R all) (sym (mapped old v more))
-      (sofar (v.items ∷ more) (subst (λ l. AllZip R l (v.items ∷ more)) (sym (ap events_among is ∙ event_first c later event)) (r, h))))
+      (sofar (v.items ∷ more) (subst (λ l. AllZip R l (v.items ∷ more)) (sym (ap trees_among is ∙ event_tree_first c later event)) (r, h))))
 
   pub other_made : (rest later : List Component) (c : Component) (made : List (Vec ℕ Z)) → rest ≡ c ∷ later → is_event c ≡ false → MadeSofar rest made → MadeSofar later made
-  other_made rest later c made is other sofar more h = sofar more (subst (λ l. AllZip R l more) (sym (ap events_among is ∙ other_first c later other)) h)
+  other_made rest later c made is other sofar more h = sofar more (subst (λ l. AllZip R l more) (sym (ap trees_among is ∙ other_tree_first c later other)) h)
 
   pub all_made : (rest : List Component) (made : List (Vec ℕ Z)) → rest ≡ [] → MadeSofar rest made → AllZip R all (octets_each made)
-  all_made rest made none sofar = subst (AllZip R all) (unended (octets_each made)) (sofar [] (subst (λ l. AllZip R l []) (sym (ap events_among none)) tt))
+  all_made rest made none sofar = subst (AllZip R all) (unended (octets_each made)) (sofar [] (subst (λ l. AllZip R l []) (sym (ap trees_among none)) tt))

@@ -1,12 +1,12 @@
 -- What was read again and compared is right.
-use Rattle.std.proofs.Common.{◌≡◌, ◌∙◌, inl, inr, ℕ, true, List, [], ◌∷◌, sym, subst}
+use Rattle.std.proofs.Common.{◌≡◌, ◌∙◌, inl, inr, ℕ, true, List, [], ◌∷◌, ap, sym, subst}
 use Rattle.std.specs.Prelude.{Contains, Option}
 use Rattle.std.specs.List.{AllZip}
 use Rattle.profile.specs.text.Lines.{logical_lines, reads_as_lines}
 use Rattle.profile.specs.text.Objects.{IsObject}
 use Rattle.profile.specs.text.Trees.{Tree, tree_own, vevents}
 use Rattle.profile.specs.events.ZonedTimes.{zone_named}
-use Rattle.profile.specs.doors.Adapting.{IsOf, IsAdapted}
+use Rattle.profile.specs.doors.Adapting.{IsOf, IsAdapted, without_zones}
 use Rattle.profile.specs.doors.Uses.{IsLineIn, NamesZone}
 use Rattle.profile.specs.doors.Returning.{TellsSame, IsRead, IsReturned, IsSplit}
 use Rattle.ical_tree.specs.declared.component.Component.{Component}
@@ -14,7 +14,10 @@ use Rattle.ical_tree.specs.Tree.{component_lines, component_children, tree_of}
 use Rattle.ical_tree.proofs.TreeOfLemmas.{tree_of-own}
 use Rattle.cal_doors.proofs.UsesEvents.{events_are}
 use Rattle.cal_doors.proofs.ToldWords.{alone}
-use Rattle.cal_doors.specs.Told.{events_among, HasItsZone, TellsAnswer, IsAnswerTold, IsReturnedBy, IsSingleOf}
+use Rattle.cal_doors.proofs.ToldEvents.{trees_are}
+use Rattle.cal_doors.proofs.RightOthers.{without}
+use Rattle.cal_doors.specs.Adapted.{others_among}
+use Rattle.cal_doors.specs.Told.{events_among, trees_among, HasItsZone, TellsAnswer, IsAnswerTold, IsReturnedBy, IsSingleOf}
 
 -- octets that were read as an object
 pub object_there : (octets : List ℕ) (text : List (List ℕ)) (object : Component) → text ≡ logical_lines octets → reads_as_lines true octets ≡ true → IsObject true (tree_of object) text
@@ -90,38 +93,40 @@ returned_adapted listed original readable answer octets going_on adapted r =
 
 pub single_right : (whole part event : Component) (octets : List ℕ) (text : List (List ℕ)) → text ≡ logical_lines octets → reads_as_lines true octets ≡ true
     → IsObject true (tree_of part) text → component_lines part ≡ component_lines whole → events_among (component_children part) ≡ component_lines event ∷ []
+    → others_among (component_children part) ≡ tree_of event ∷ []
     → ((name line : List ℕ) → IsLineIn name (component_lines event) line → zone_named name (tree_of part) ≡ zone_named name (tree_of whole))
-    → IsSingleOf (tree_of whole) (component_lines event) octets
-single_right whole part event octets text lines reads spelled own only zones = (
+    → IsSingleOf (tree_of whole) (tree_of event) octets
+single_right whole part event octets text lines reads spelled own only others zones = (
   tree_of part,
   object_there octets text part lines reads spelled,
   record {
-    only = events_are part ∙ only;
+    only = events_are part ∙ only ∙ ap (λ ls. ls ∷ []) (sym (tree_of-own event));
+    others = without part ∙ others;
     own = same_own part whole own;
     zones = λ name (ls, line, c, is). zones name line (subst (λ l. IsLineIn name l line) (sym (alone (component_lines event) ls (subst (λ l. Contains l ls) (events_are part ∙ only) c))) is);
   },
 )
 
-abbrev Fits : Tree → List (List ℕ) → Tree → Type 0
-Fits object lines part = (vevents part ≡ lines ∷ []) × (tree_own part ≡ tree_own object)
+abbrev Fits : Tree → Tree → Tree → Type 0
+Fits object event part = (vevents part ≡ tree_own event ∷ []) × (without_zones part ≡ event ∷ []) × (tree_own part ≡ tree_own object)
     × ((name : List ℕ) → NamesZone part name → zone_named name part ≡ zone_named name object)
 
-trees_of_parts : (whole : Tree) (events : List (List (List ℕ))) (parts : List (List ℕ)) → AllZip (IsSingleOf whole) events parts
+trees_of_parts : (whole : Tree) (events : List Tree) (parts : List (List ℕ)) → AllZip (IsSingleOf whole) events parts
     → (trees : List Tree) × AllZip IsOf parts trees × AllZip (Fits whole) events trees
 trees_of_parts whole [] [] h = ([], tt, tt)
 trees_of_parts whole [] (p ∷ ps) h = absurd h
 trees_of_parts whole (e ∷ es) [] h = absurd h
 trees_of_parts whole (e ∷ es) (p ∷ ps) ((t, is, s), rest) =
-    let (ts, are, fit) = trees_of_parts whole es ps rest in (t ∷ ts, (is, are), ((s.only, s.own, s.zones), fit))
+    let (ts, are, fit) = trees_of_parts whole es ps rest in (t ∷ ts, (is, are), ((s.only, s.others, s.own, s.zones), fit))
 
 pub split_right : (whole : Component) (octets : List ℕ) (text : List (List ℕ)) (parts : List (List ℕ)) → text ≡ logical_lines octets → reads_as_lines true octets ≡ true
-    → IsObject true (tree_of whole) text → AllZip (IsSingleOf (tree_of whole)) (events_among (component_children whole)) parts → IsSplit octets parts
+    → IsObject true (tree_of whole) text → AllZip (IsSingleOf (tree_of whole)) (trees_among (component_children whole)) parts → IsSplit octets parts
 split_right whole octets text parts lines reads spelled each =
-    let (trees, are, fit) = trees_of_parts (tree_of whole) (events_among (component_children whole)) parts each in
+    let (trees, are, fit) = trees_of_parts (tree_of whole) (trees_among (component_children whole)) parts each in
     record {
       whole = tree_of whole;
       is_whole = object_there octets text whole lines reads spelled;
       trees = trees;
       are = are;
-      each = subst (λ l. AllZip (Fits (tree_of whole)) l trees) (sym (events_are whole)) fit;
+      each = subst (λ l. AllZip (Fits (tree_of whole)) l trees) (sym (trees_are whole)) fit;
     }

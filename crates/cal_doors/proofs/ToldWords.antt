@@ -1,5 +1,5 @@
 -- Words of an object for an answer, and lines that are told in them.
-use Rattle.std.proofs.Common.{◌≡◌, ◌∙◌, ◌⊎◌, inl, inr, ℕ, ◌<◌, ℤ, true, List, [], ◌∷◌, ◌++◌, length, get_or, codes, sym, ap, subst}
+use Rattle.std.proofs.Common.{◌≡◌, ◌∙◌, ◌⊎◌, inl, inr, ℕ, ◌<◌, ℤ, true, List, [], ◌∷◌, length, get_or, codes, sym, ap, subst}
 use Rattle.std.specs.Prelude.{Contains, Some, None, option_map, unwrap_or}
 use Rattle.std.specs.List.{AllZip}
 use Rattle.std.proofs.lemmas.List.Elements.{Contains-push_cases, Contains-append_cases, All-get_or, All-head, All-tail, All-contains_itself, All-contains}

@@ -1,7 +1,7 @@
 -- Two sets of onsets that are the same up to an instant, of which one has begun: what is in force before it is the same, and what local times
 -- mean that no clock shows after it. For `GeneralZone::between`.
 use Rattle.std.proofs.Common.{◌≡◌, refl, sym, subst, arith, zero, suc, inl, inr, List, [], ◌∷◌, ℤ, pos, ◌+ℤ◌, ◌-ℤ◌, ◌≤ℤ◌}
-use Rattle.std.specs.Prelude.{Bool, false, Option}
+use Rattle.std.specs.Prelude.{Bool, false, Option, Some, None, IfSome}
 use Rattle.std.proofs.lemmas.Int.{ints}
 use Rattle.jiff_core.proofs.SignedLemmas.{signed_arith}
 use Rattle.profile.specs.text.Values.{IsOffset}
@@ -9,8 +9,9 @@ use Rattle.profile.specs.series.Zones.{Zone, Onset, InForce, Since, Until, Shows
 use Rattle.profile.specs.series.GeneralZones.{Run, IsRunOnset, IsGeneralOnset, IsGeneralOffsetAt, IsSameFrom, IsSameBetween}
 use Rattle.cal_doors.specs.Runs.{runs_in}
 use Rattle.cal_doors.specs.declared.run.Run as kept
-use Rattle.profile.specs.doors.Adapting.{IsSameFor, as_long, beyond}
-use Rattle.cal_doors.specs.Between.{HasOnsetBy, AreSameUpTo, LastsAsLong, GoesOnFrom}
+use Rattle.profile.specs.doors.Adapting.{IsGoneOn, IsSameFor, SetsBack, as_long, beyond}
+use Rattle.cal_doors.specs.Between.{HasOnsetBy, AreSameUpTo, LastsAsLong, GoesOnFrom, IsChosenBeyond}
+use Rattle.cal_doors.proofs.GoingOn.{same_up_to}
 
 -- ---- the offset in force
 
@@ -118,12 +119,28 @@ pub runs_between : (runs others : List kept.Run) (from to : ℤ) (z : Zone) → 
     → IsSameFrom (runs_in others) z from → IsSameBetween (runs_in runs) z from to
 runs_between runs others from to z same begun h = between (runs_in runs) (runs_in others) from to same begun (are_offsets runs) (are_offsets others) z h
 
+-- and one that does the same as the zone that goes on from the second on goes on
+pub beyond_from : (runs others : List kept.Run) (from to : ℤ) (z : Zone) → IsGoneOn (runs_in runs) to (runs_in others) → HasOnsetBy (runs_in runs) from
+    → IsSameFrom (runs_in others) z from × SetsBack z → GoesOnFrom (runs_in runs) z from to
+beyond_from runs others from to z gone begun (h, sides) = record {
+  same = runs_between runs others from to z (same_up_to (runs_in runs) (runs_in others) to gone) begun h;
+  longer = runs_in others;
+  gone_on = gone;
+  on = h;
+  sides = sides;
+}
+
+pub both_some : {T : Type 0} (P Q : T → Type 0) (o : Option T) → IfSome o P → IfSome o Q → IfSome o (λ x. P x × Q x)
+both_some P Q None p q = tt
+both_some P Q (Some x) p q = (p, q)
+
 -- ---- local times from one on
 
 -- a zone that lasts as long as they do, and one that goes on
 pub lasts_as_long : (zone : List Run) (z : Zone) (first from : ℤ) (last : Option ℤ) → from ≡ first -ℤ pos 86_399 → LastsAsLong zone z from last → IsSameFor zone z false first last
 lasts_as_long zone z first from last e (end, is, same) = as_long end refl is (subst (λ f. IsSameBetween zone z f (end +ℤ pos 86_399)) e same)
 
-pub goes_on_beyond : (zone : List Run) (z : Zone) (goes_on : Bool) (first from : ℤ) (last : Option ℤ) → from ≡ first -ℤ pos 86_399 → GoesOnFrom zone z goes_on from
+pub goes_on_beyond : (zone : List Run) (z : Zone) (goes_on : Bool) (first from : ℤ) (last : Option ℤ) → from ≡ first -ℤ pos 86_399 → IsChosenBeyond zone z goes_on from
     → IsSameFor zone z goes_on first last
-goes_on_beyond zone z goes_on first from last e (to, does, ended, same) = beyond to does ended (subst (λ f. IsSameBetween zone z f to) e same)
+goes_on_beyond zone z goes_on first from last e (to, does, ended, h) =
+    beyond to h.longer does ended (subst (λ f. IsSameBetween zone z f to) e h.same) h.gone_on (subst (λ f. IsSameFrom h.longer z f) e h.on)

@@ -2,6 +2,7 @@
 use Rattle.std.specs.Prelude.{◌≡◌, ◌↔◌, None, List, ℤ, ◌+ℤ◌}
 use Rattle.std.specs.Int.Signed.{◌<ℤ◌}
 use Rattle.profile.specs.series.Zones.{Observance, Onset, Zone, Constant, Single, local_time, IsZoneOnset, IsOffsetAt, Means}
+use Rattle.profile.specs.doors.Adapting.{SetsBack}
 use Rattle.profile.specs.series.GeneralZones.{Run, IsGeneralOnset, IsGeneralOffsetAt, MeansGenerally, runs_of}
 
 -- one offset is in force at an instant
@@ -18,6 +19,7 @@ pub record IsStillAfter (zone : List Run) (instant offset : ℤ) (other : Zone) 
 pub record HasOnsetsAfter (zone : List Run) (instant : ℤ) (other : Zone) : Type 0 where
   pub there : (x : Onset) → instant <ℤ x.instant → IsGeneralOnset zone x → IsZoneOnset other x
   pub back : (x : Onset) → instant <ℤ x.instant → IsZoneOnset other x → IsGeneralOnset zone x
+  pub sides : SetsBack other
 
 -- the zone of one onset, at an instant and with these offsets
 pub record IsOnceAt (only from to : ℤ) (zone : Zone) : Type 0 where

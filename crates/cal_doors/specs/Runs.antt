@@ -1,8 +1,9 @@
 -- What runs of onsets represent, and what is found of them.
-use Rattle.std.specs.Prelude.{◌≡◌, ℕ, ◌<◌, ◌≤◌, true, Option, Some, List, map, ℤ, ◌≤ℤ◌, MatchOption}
+use Rattle.std.specs.Prelude.{◌≡◌, ℕ, ◌<◌, ◌≤◌, true, Option, Some, None, List, map, ℤ, ◌≤ℤ◌, MatchOption}
 use Rattle.std.specs.Int.Signed.{◌<ℤ◌}
 use Rattle.profile.specs.series.Zones.{Observance, Onset, IsOnset, begins_on, local_time}
-use Rattle.profile.specs.series.GeneralZones.{End, Run, IsRunOnset}
+use Rattle.profile.specs.series.GeneralZones.{End, Never, Run, IsRunOnset}
+use Rattle.profile.specs.doors.Adapting.{StatesAt}
 use Rattle.cal_zones.specs.Onsets.{observance_of}
 use Rattle.cal_zones.specs.Shapes.{yearly_pattern}
 use Rattle.cal_doors.specs.Ends.{end_of}
@@ -41,3 +42,24 @@ abbrev pub ReachTo : Run → Observance → ℤ → Option ℤ → Type 0
 ReachTo run whole from reach =
     MatchOption reach ((x : Onset) → IsOnset whole x → from <ℤ x.instant → IsRunOnset run x)
     (λ to. (x : Onset) → IsOnset whole x → from <ℤ x.instant → x.instant ≤ℤ to → IsRunOnset run x)
+
+-- it states nothing up to an instant
+abbrev pub StatesNothingBy : Run → ℤ → Type 0
+StatesNothingBy run instant = (other : ℤ) → StatesAt run other → instant <ℤ other
+
+-- the last instant up to another of which it states something
+pub record IsLastStated (run : Run) (instant last : ℤ) : Type 0 where
+  pub states : StatesAt run last
+  pub by_then : last ≤ℤ instant
+  pub latest : (other : ℤ) → StatesAt run other → other ≤ℤ instant → other ≤ℤ last
+
+-- an onset of an observance comes after an instant and up to another
+pub record HasOnsetIn (o : Observance) (after until : ℤ) : Type 0 where
+  pub onset : Onset
+  pub is : IsOnset o onset
+  pub later : after <ℤ onset.instant
+  pub up_to : onset.instant ≤ℤ until
+
+-- it has a rule that never ends
+abbrev pub IsEndless : Run → Type 0
+IsEndless run = (run.end ≡ Never) × (run.observance.rule ≡ None → ⊥)

@@ -1,14 +1,14 @@
 -- What the tables of the way back hold, and what is found of an answer that is told in other words.
 use Rattle.std.specs.Prelude.{◌≡◌, ℕ, ℤ, Bool, true, List, [], ◌∷◌, All, Contains, map, filter, codes, Some, String, string_bytes}
 use Rattle.std.specs.List.{AllZip}
-use Rattle.ical_tree.specs.Tree.{component_name, component_lines}
+use Rattle.ical_tree.specs.Tree.{component_name, component_lines, tree_of}
 use Rattle.ical_tree.specs.declared.component.Component.{Component}
 use Rattle.profile.specs.text.Lines.{is_same_name}
 use Rattle.profile.specs.text.Trees.{Tree, tree_own, vevents}
 use Rattle.profile.specs.events.Properties.{Fixed, is_of}
 use Rattle.profile.specs.events.ZonedTimes.{zone_named, SaysZoneOf, SaysInstant}
 use Rattle.profile.specs.series.Zones as zones
-use Rattle.profile.specs.doors.Adapting.{IsOf}
+use Rattle.profile.specs.doors.Adapting.{IsOf, without_zones}
 use Rattle.profile.specs.doors.Uses.{NamesZone}
 use Rattle.profile.specs.doors.Returning.{TellsSame, IsItsZone}
 use Rattle.cal_zones.specs.Kinds.{zone_of}
@@ -96,12 +96,17 @@ pub record IsReturnedBy (original readable answer octets : List ℕ) : Type 0 wh
   pub is_read : IsOf readable read
   pub answered : IsAnswerTold asked read answer octets
 
--- an object of one VEVENT: the own lines of the whole, and each name means the same VTIMEZONE
-pub record IsOneEvent (whole : Tree) (lines : List (List ℕ)) (part : Tree) : Type 0 where
-  pub only : vevents part ≡ lines ∷ []
+-- the VEVENTs among components, in order, as trees
+abbrev pub trees_among : List Component → List Tree
+trees_among cs = map tree_of (filter is_event cs)
+
+-- an object of one VEVENT: the own lines of the whole, and each name means the same VTIMEZONE; but for VTIMEZONEs it is all that is inside
+pub record IsOneEvent (whole event part : Tree) : Type 0 where
+  pub only : vevents part ≡ tree_own event ∷ []
+  pub others : without_zones part ≡ event ∷ []
   pub own : tree_own part ≡ tree_own whole
   pub zones : (name : List ℕ) → NamesZone part name → zone_named name part ≡ zone_named name whole
 
 -- the octets are one
-abbrev pub IsSingleOf : Tree → List (List ℕ) → List ℕ → Type 0
-IsSingleOf whole lines octets = (part : Tree) × IsOf octets part × IsOneEvent whole lines part
+abbrev pub IsSingleOf : Tree → Tree → List ℕ → Type 0
+IsSingleOf whole event octets = (part : Tree) × IsOf octets part × IsOneEvent whole event part

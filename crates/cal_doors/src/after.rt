@@ -150,5 +150,8 @@ fn pair_of_runs(runs: &[Run], one: &Run, other: &Run, instant: i64) -> Option<Zo
     if one.offset_to < one.offset_from {
         return Zone::pair(one.observance, other.observance).ok();
     }
-    Zone::pair(other.observance, one.observance).ok()
+    if other.offset_to < other.offset_from {
+        return Zone::pair(other.observance, one.observance).ok();
+    }
+    None
 }

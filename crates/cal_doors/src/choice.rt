@@ -2,9 +2,9 @@
 
 ghost use Rattle.std.specs.Prelude.{◌≡◌, IfOk, IfSome};
 ghost use Rattle.cal_zones.specs.Kinds.{zone_of};
-ghost use Rattle.profile.specs.doors.Adapting.{IsSameFor};
+ghost use Rattle.profile.specs.doors.Adapting.{IsSameFor, SetsBack};
 ghost use Rattle.cal_doors.specs.Found.{general_of};
-ghost use Rattle.cal_doors.specs.Between.{GoesOnFrom, LastsAsLong};
+ghost use Rattle.cal_doors.specs.Between.{IsChosenBeyond, LastsAsLong};
 
 use crate::uses::Use;
 use crate::zone::GeneralZone;
@@ -21,17 +21,22 @@ pub(crate) struct Choice {
     pub(crate) goes_on: bool,
 }
 
-/// The zone that does the same as one in general for these local times. None where none is found.
+/// The zone that does the same as one in general for these local times: where its table ends in 2036 or later and they don't end, the zone that goes on.
+/// None where none is found.
 pub(crate) fn choose(
     alloc: Global,
     general: &GeneralZone,
     times: Use,
 ) -> Result<Option<Choice>, AllocError>
-    ensures { IfOk result (λ found. IfSome found (λ c. IsSameFor (general_of general.now) (zone_of c.zone) c.goes_on times.first times.last)) }
+    ensures same { IfOk result (λ found. IfSome found (λ c. IsSameFor (general_of general.now) (zone_of c.zone) c.goes_on times.first times.last)) }
+    ensures sides { IfOk result (λ found. IfSome found (λ c. SetsBack (zone_of c.zone))) }
 {
     let Some(from) = times.first.checked_sub(LEAST_OF_DAY) else {
         return Ok(None);
     };
+    if general.ends_before(times.last) {
+        return beyond(alloc, general, from);
+    }
     if let Some(zone) = general.from_instant(from) {
         return Ok(Some(Choice {
             zone,
@@ -54,7 +59,8 @@ fn as_long(
     from: i64,
     last: Option<i64>,
 ) -> Result<Option<Zone>, AllocError>
-    ensures { IfOk result (λ found. IfSome found (λ zone. LastsAsLong (general_of general.now) (zone_of zone) from last)) }
+    ensures same { IfOk result (λ found. IfSome found (λ zone. LastsAsLong (general_of general.now) (zone_of zone) from last)) }
+    ensures sides { IfOk result (λ found. IfSome found (λ zone. SetsBack (zone_of zone))) }
 {
     let Some(last) = last else {
         return Ok(None);
@@ -65,14 +71,14 @@ fn as_long(
     general.between(alloc, from, to)
 }
 
-/// The zone that does the same up to the end of a table that reaches 2036, and goes on. None where none is found.
+/// The zone that does the same from an instant on up to the end of a table that reaches 2036, and goes on. None where none is found.
 fn beyond(alloc: Global, general: &GeneralZone, from: i64) -> Result<Option<Choice>, AllocError>
-    ensures { IfOk result (λ found. IfSome found (λ c. GoesOnFrom (general_of general.now) (zone_of c.zone) c.goes_on from)) }
+    ensures { IfOk result (λ found. IfSome found (λ c. IsChosenBeyond (general_of general.now) (zone_of c.zone) c.goes_on from)) }
 {
     let Some(to) = general.table_end() else {
         return Ok(None);
     };
-    match general.between(alloc, from, to)? {
+    match general.beyond(alloc, from, to)? {
         Some(zone) => Ok(Some(Choice {
             zone,
             goes_on: true,

@@ -23,9 +23,9 @@ pub enum End {
 }
 
 impl End {
-    ghost use Rattle.std.specs.Prelude.{◌≡◌, ℕ, true};
+    ghost use Rattle.std.specs.Prelude.{◌≡◌, ℕ, true, false};
     ghost use Rattle.profile.specs.series.Zones.{Observance};
-    ghost use Rattle.profile.specs.series.GeneralZones.{IsInTime};
+    ghost use Rattle.profile.specs.series.GeneralZones.{AfterCount, IsInTime};
     ghost use Rattle.cal_doors.specs.Ends.{end_of, IsBound};
 
     /// An instant that no onset up to the given one is later than.
@@ -47,6 +47,18 @@ impl End {
             End::Never => true,
             End::After(_) => false,
             End::At(until) => instant <= until,
+        }
+    }
+
+    /// Whether it counts onsets.
+    pub(crate) fn is_counted(self) -> bool
+        ensures yes { result ≡ true → (count : ℕ) × (end_of self ≡ AfterCount count) }
+        ensures no { result ≡ false → (count : ℕ) → end_of self ≡ AfterCount count → ⊥ }
+    {
+        match self {
+            End::Never => false,
+            End::After(_) => true,
+            End::At(_) => false,
         }
     }
 }

@@ -1,13 +1,13 @@
 //! What zones in general are the same as, and what an object that was made readable says: laws, with nothing to do.
 
-ghost use Rattle.std.specs.Prelude.{◌≡◌, ◌↔◌, ◌⊎◌, ◌<◌, ◌++◌, ◌∷◌, ℕ, ℤ, true, false, List, Option, None, Contains};
+ghost use Rattle.std.specs.Prelude.{◌≡◌, ◌↔◌, ◌⊎◌, ◌<◌, ◌++◌, ◌∷◌, ℕ, ℤ, pos, ◌-ℤ◌, ◌≤ℤ◌, Bool, true, false, List, Option, None, Contains};
 ghost use Rattle.std.specs.List.{list_any};
 ghost use Rattle.std.specs.Str.{bytes_eq};
 ghost use Rattle.profile.specs.text.Trees.{Tree, vevents};
 ghost use Rattle.profile.specs.series.Rules.{Rule, RuleText};
 ghost use Rattle.profile.specs.series.Zones.{Zone, Observance, Single, Pair, Means, Shows, local_time};
 ghost use Rattle.profile.specs.series.GeneralZones as general;
-ghost use Rattle.profile.specs.series.GeneralZoneTexts.{IsRunAt};
+ghost use Rattle.profile.specs.series.GeneralZoneTexts.{IsRunAt, SaysGeneralZone, GeneralZoneFault};
 ghost use Rattle.profile.specs.series.RoomZones.{IsRoomZone};
 ghost use Rattle.profile.specs.events.Properties.{Fixed};
 ghost use Rattle.profile.specs.events.ZonedTimes.{EventTimes, SaysEventTimes, clock_of};
@@ -17,9 +17,13 @@ ghost use Rattle.profile.specs.events.Placed.{IsPlaced};
 ghost use Rattle.profile.specs.events.Starts.{IsRuleStart, IsGiven, IsDaysLater};
 ghost use Rattle.profile.specs.doors.OnClocks.{GivesRuleOn, IsRuleStartOn, IsDaysLaterOn, MayStart};
 ghost use Rattle.profile.specs.doors.Uses.{IsLineIn};
-ghost use Rattle.profile.specs.doors.Adapting.{IsAdapted};
+ghost use Rattle.profile.specs.doors.Adapting.{EndsBefore, IsAdapted, IsSameFor, TakesPlace};
 ghost use Rattle.cal_doors.specs.After.{IsGeneral, AreSameZones};
-ghost use Rattle.cal_doors.specs.Laws.{SaysTheSame, SaysTheSameUpTo};
+ghost use Rattle.cal_doors.specs.Laws.{AgreeFrom, SaysTheSame, SaysTheSameUpTo};
+
+use cal_rules::one_rule;
+use ical_values::local_time::one_local_time;
+use ical_values::offset::one_offset;
 
 /// The same offset is in force, and local times mean the same, in a zone of one observance or of two and in the zone in general of its runs.
 pub fn zones_are_general()
@@ -35,10 +39,21 @@ pub fn date_at_start_adds_nothing()
         → AreSameZones (before ++ again ∷ after) (before ++ after) }
 {}
 
+/// A VTIMEZONE says at most one zone in general, and none where it has a fault. With the contract of `GeneralZone::read`: what is read is the one zone that it
+/// says, and what is refused says none.
+pub fn one_general_zone()
+    ensures one { (t : Tree) (a b : List general.Run) → SaysGeneralZone t a → SaysGeneralZone t b → a ≡ b }
+    ensures or_a_fault { (t : Tree) (a : List general.Run) (n : ℕ) → SaysGeneralZone t a → GeneralZoneFault t n → ⊥ }
+{
+    one_rule();
+    one_local_time();
+    one_offset();
+}
+
 /// Each VEVENT of an object that was made readable says the same as before by its times in each zone that isn't told to go on beyond what is stated: each
 /// local time that it names there means the same instant, its rule has the same days and the same starts, and nominal days end at the same instant. The
-/// rule of one before 1970, which a room refuses, is left aside. In a zone that is told to go on it says the same up to the end of the onsets before
-/// 2038-01-19T03:14:07Z, which is in 2036 or later.
+/// rule of one before 1970, which a room refuses, is left aside. In a zone that is told to go on it says the same up to the end of what is stated before
+/// 2038-01-19T03:14:07Z, which is in 2036 or later, and always the same as by the zone that goes on there by its last rules.
 pub fn adapted_says_the_same()
     ensures exact { (listed : Option Tree) (octets : List ℕ) (going_on : List (List ℕ)) (adapted : List ℕ) (a : IsAdapted listed octets going_on adapted)
         (name : List ℕ) (lines : List (List ℕ)) (line : List ℕ) → Contains (vevents a.before) lines → IsLineIn name lines line
@@ -47,6 +62,17 @@ pub fn adapted_says_the_same()
         (name : List ℕ) (lines : List (List ℕ)) (line : List ℕ) → Contains (vevents a.before) lines → IsLineIn name lines line
         → list_any (bytes_eq name) going_on ≡ true → SaysTheSameUpTo listed a.before a.after name lines }
 {}
+
+/// A VTIMEZONE whose table ends in 2036 or later, with no rule that goes on without an end, is told to go on wherever times don't end. And where one VTIMEZONE is told to
+/// go on in two objects, the two have the same offsets from the later of their first times on, and each local time means the same.
+pub fn tables_go_on_alike()
+    ensures told { (zone : List general.Run) (other : Zone) (goes_on : Bool) (first : ℤ) → EndsBefore zone None → IsSameFor zone other goes_on first None → goes_on ≡ true }
+    ensures alike { (listed : Option Tree) (object another : Tree) (name named : List ℕ) (one other : Zone)
+        (a : TakesPlace listed object name true one) (b : TakesPlace listed another named true other) (from : ℤ)
+        → a.meant ≡ b.meant → a.first ≤ℤ from → b.first ≤ℤ from → AgreeFrom one other (from -ℤ pos 86_399) }
+{
+    one_general_zone();
+}
 
 /// On the clocks of a zone that a room reads, a rule, its starts and nominal days are what the room makes of them.
 pub fn zones_are_clocks()

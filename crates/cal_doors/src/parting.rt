@@ -10,11 +10,13 @@ ghost use Rattle.profile.specs.events.ZonedTimes.{zone_named};
 ghost use Rattle.profile.specs.doors.Uses.{is_time_line, IsLineIn};
 ghost use Rattle.profile.specs.doors.Returning.{IsSplit};
 ghost use Rattle.cal_doors.specs.Named.{AreNamed};
-ghost use Rattle.cal_doors.specs.Told.{events_among, IsSingleOf};
+ghost use Rattle.cal_doors.specs.Told.{events_among, trees_among, IsSingleOf};
+ghost use Rattle.cal_doors.specs.Adapted.{others_among};
 
 use crate::named::NamedZones;
 use crate::readable::{object_of, text_of};
 use crate::retold::{Names, note_zone, write_lines};
+use crate::right::past_zones;
 use crate::told::from_event;
 use crate::uses::is_time_line;
 use ical_lines::{Line, write_property};
@@ -22,8 +24,9 @@ use ical_tree::{Component, OwnLines, write_object};
 use indexmap::IndexMap;
 use std::alloc::{AllocError, Global};
 
-/// The VEVENTs of an object, each in an object of its own: with the own lines of the object, and with the VTIMEZONEs that it names. None where there
-/// aren't at least two, or it is no object within the limits of a message. What is made is read again, and handed on only if it is right.
+/// The VEVENTs of an object, each with all that is inside it in an object of its own: with the own lines of the object, and with the VTIMEZONEs that it names.
+/// None where there aren't at least two, or it is no object within the limits of a message. What is made is read again, and handed on only if it is
+/// right: where one isn't, as if it is beyond those limits with its lines folded, there is None either.
 pub fn split(alloc: Global, octets: &[u8]) -> Result<Option<Vec<Vec<u8>>>, AllocError>
     ensures { IfOk result (λ found. IfSome found (λ parts. IsSplit octets.now (map (λ part. part.items) parts.items))) }
 {
@@ -52,7 +55,7 @@ fn parts_of(
     requires zones { AreNamed zones.now }
     requires whole { zones.now.object.now ≡ whole.now }
     ensures { IfOk result (λ found. IfSome found (λ parts.
-        AllZip (IsSingleOf (tree_of whole.now)) (events_among (component_children whole.now)) (map (λ part. part.items) parts.items))) }
+        AllZip (IsSingleOf (tree_of whole.now)) (trees_among (component_children whole.now)) (map (λ part. part.items) parts.items))) }
 {
     let mut parts = Vec::new(alloc);
     for child in whole.children() {
@@ -76,7 +79,7 @@ fn part_of(
 ) -> Result<Option<Vec<u8>>, AllocError>
     requires zones { AreNamed zones.now }
     requires whole { zones.now.object.now ≡ whole.now }
-    ensures { IfOk result (λ found. IfSome found (λ part. IsSingleOf (tree_of whole.now) (component_lines event.now) part.items)) }
+    ensures { IfOk result (λ found. IfSome found (λ part. IsSingleOf (tree_of whole.now) (tree_of event.now) part.items)) }
 {
     let part = single(alloc, whole, event, zones)?;
     if !is_single(alloc, part.as_slice(), whole, event, zones)? {
@@ -118,7 +121,7 @@ fn names_of(alloc: Global, event: &Component) -> Result<Names, AllocError> {
     Ok(names)
 }
 
-/// Whether octets are an object of one VEVENT, with the own lines of another object, where each name means the same VTIMEZONE.
+/// Whether octets are an object of one VEVENT, with the own lines of another object, where each name means the same VTIMEZONE, and nothing else is inside.
 fn is_single(
     alloc: Global,
     octets: &[u8],
@@ -128,7 +131,7 @@ fn is_single(
 ) -> Result<bool, AllocError>
     requires zones { AreNamed zones.now }
     requires whole { zones.now.object.now ≡ whole.now }
-    ensures { IfOk result (λ right. right ≡ true → IsSingleOf (tree_of whole.now) (component_lines event.now) octets.now) }
+    ensures { IfOk result (λ right. right ≡ true → IsSingleOf (tree_of whole.now) (tree_of event.now) octets.now) }
 {
     let Some(text) = text_of(alloc, octets)? else {
         return Ok(false);
@@ -138,6 +141,9 @@ fn is_single(
     };
     let its = NamedZones::of(alloc, &part)?;
     if !part.has_same_lines(whole) || !is_only_event(part.children(), event) {
+        return Ok(false);
+    }
+    if !is_only_other(part.children(), event) {
         return Ok(false);
     }
     Ok(have_same_zones(event.lines(), &its, zones))
@@ -154,6 +160,19 @@ fn is_only_event(components: &[Component], event: &Component) -> bool
         return false;
     }
     from_event(later).is_empty()
+}
+
+/// Whether components are this one, but for VTIMEZONEs.
+fn is_only_other(components: &[Component], event: &Component) -> bool
+    ensures { result ≡ true → others_among components.now ≡ tree_of event.now ∷ [] }
+{
+    let [only, later @ ..] = past_zones(components) else {
+        return false;
+    };
+    if only.is_named("VTIMEZONE") || !only.is_same(event) {
+        return false;
+    }
+    past_zones(later).is_empty()
 }
 
 /// Whether each name of a zone in lines of times means the same VTIMEZONE in both.

@@ -1,5 +1,8 @@
 //! Where to look for the zone that some runs are: what is found here is checked by those who use it.
 
+ghost use Rattle.std.specs.Prelude.{◌≡◌, true};
+ghost use Rattle.cal_doors.specs.Runs.{run_of, IsEndless};
+
 use crate::end::End;
 use crate::run::Run;
 
@@ -66,7 +69,9 @@ pub(crate) fn earliest_place(runs: &[Run], other: &Run) -> Option<usize> {
 }
 
 /// Whether a run has a rule that never ends.
-fn is_endless(run: &Run) -> bool {
+pub(crate) fn is_endless(run: &Run) -> bool
+    ensures { result ≡ true → IsEndless (run_of run.now) }
+{
     match run.end {
         End::Never => run.each.is_some(),
         _ => false,

@@ -29,7 +29,7 @@ pub struct Adapted {
 /// The object with VTIMEZONEs that a room reads, in the place of those that its times name and a room doesn't read. None where there are none,
 /// where it is no object within the limits of a message, and where one of them can't be had: then it is handed on as it is. Each takes
 /// the place of what its name means at the door: the VTIMEZONE of the object, or that of the list (an object) where it is missing or has no
-/// part. All other lines are those of the object, octet by octet. What is made is read again, and handed on only if it is right.
+/// part. All other lines are those of the object, as they read unfolded. What is made is read again, and handed on only if it is right.
 pub fn adapt(
     alloc: Global,
     octets: &[u8],

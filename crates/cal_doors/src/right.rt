@@ -137,7 +137,7 @@ fn are_same_components(before: &[Component], after: &[Component]) -> bool
 }
 
 /// What is left behind the VTIMEZONEs that come first.
-fn past_zones<'s, 'a>(components: &'s [Component<'a>]) -> &'s [Component<'a>]
+pub(crate) fn past_zones<'s, 'a>(components: &'s [Component<'a>]) -> &'s [Component<'a>]
     ensures { others_among result.now ≡ others_among components.now }
 {
     let mut left = components;

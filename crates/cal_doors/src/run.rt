@@ -29,7 +29,7 @@ pub struct Run {
 }
 
 impl Run {
-    ghost use Rattle.std.specs.Prelude.{◌≡◌, ℕ, true, None, IfSome, MatchOption, pos, negsuc, ◌≤ℤ◌};
+    ghost use Rattle.std.specs.Prelude.{◌≡◌, ℕ, true, false, None, IfSome, MatchOption, pos, negsuc, ◌≤ℤ◌};
     ghost use Rattle.std.specs.Int.Signed.{◌<ℤ◌};
     ghost use Rattle.profile.specs.series.Zones.{Onset, IsOnset, IsFirstOf, onset_at};
     ghost use Rattle.profile.specs.series.GeneralZones.{IsRunOnset};
@@ -37,11 +37,10 @@ impl Run {
     ghost use Rattle.std.specs.Prelude.{◌↔◌, IsSome};
     ghost use Rattle.profile.specs.series.Zones as said;
     ghost use Rattle.profile.specs.series.GeneralZoneTexts.{IsRunAt};
-    ghost use Rattle.profile.specs.doors.Adapting.{StatesAt};
     ghost use Rattle.cal_zones.specs.Shapes.{occurs_yearly};
     ghost use Rattle.cal_doors.specs.Ends.{end_of};
-    ghost use Rattle.cal_doors.specs.Runs.{IsYearlyRun, run_of, AreUpTo, IsAlike, ReachTo};
-    ghost use Rattle.cal_doors.specs.declared.end.End.TheVariants.{Never};
+    ghost use Rattle.cal_doors.specs.Runs.{IsYearlyRun, run_of, AreUpTo, IsAlike, ReachTo, StatesNothingBy, IsLastStated, HasOnsetIn};
+    ghost use Rattle.cal_doors.specs.declared.end.End.TheVariants.{Never, At};
 
     /// The run of one onset, at a local time that is read with TZOFFSETFROM.
     pub fn once(start: LocalTime, from: UtcOffset, to: UtcOffset) -> Run
@@ -114,31 +113,26 @@ impl Run {
         }
     }
 
-    /// No onset up to an instant is later than this: its end, where that is known and no later. None where there is none up to it.
-    pub(crate) fn ended_by(&self, instant: i64) -> Option<i64>
-        ensures { AreUpTo (run_of self.now) instant result }
+    /// The last instant up to another of which it states something: an onset, or the UNTIL of its rule. COUNT is left aside. None where there is none.
+    pub(crate) fn last_stated(&self, instant: i64) -> Option<i64>
+        ensures { MatchOption result (StatesNothingBy (run_of self.now) instant) (IsLastStated (run_of self.now) instant) }
     {
-        match self.last_bound() {
-            Some(last) if last <= instant => Some(last),
-            _ => self.latest_bound(instant),
+        match self.end {
+            End::Never => self.observance.latest_onset(instant),
+            End::After(_) => self.observance.latest_onset(instant),
+            End::At(until) => self.stated_until(until, instant),
         }
     }
 
-    /// The last instant up to another of which it states something: the UNTIL of its rule, where that is no later, or else its last onset.
-    /// None where there is none, and where the onsets are counted: then it isn't known.
-    pub(crate) fn last_stated(&self, instant: i64) -> Option<i64>
-        ensures { IfSome result (StatesAt (run_of self.now)) }
+    /// The same of a run that UNTIL ends.
+    fn stated_until(&self, until: i64, instant: i64) -> Option<i64>
+        requires { self.now.end ≡ At until }
+        ensures { MatchOption result (StatesNothingBy (run_of self.now) instant) (IsLastStated (run_of self.now) instant) }
     {
-        if let End::At(until) = self.end {
-            if until <= instant {
-                return Some(until);
-            }
+        if until <= instant {
+            return Some(until);
         }
-        let latest = self.latest_bound(instant)?;
-        if !self.begins_at(latest) {
-            return None;
-        }
-        Some(latest)
+        self.observance.latest_onset(instant)
     }
 
     /// Whether no onset comes after an instant. It isn't known where the onsets are counted.
@@ -158,6 +152,17 @@ impl Run {
         match self.latest_bound(until) {
             None => true,
             Some(latest) => latest <= after,
+        }
+    }
+
+    /// Whether an onset of its rule, whose end is left aside, comes after an instant and up to another.
+    pub(crate) fn has_onset_in(&self, after: i64, until: i64) -> bool
+        ensures yes { result ≡ true → HasOnsetIn (observance_of self.now.observance) after until }
+        ensures no { result ≡ false → (x : Onset) → IsOnset (observance_of self.now.observance) x → x.instant ≤ℤ until → x.instant ≤ℤ after }
+    {
+        match self.observance.latest_onset(until) {
+            Some(latest) => after < latest,
+            None => false,
         }
     }
 

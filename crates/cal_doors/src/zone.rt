@@ -1,7 +1,7 @@
 //! A zone in general, and the zone of the accepted form that it is from an instant on.
 
 use crate::after::{offset_at, still_after, zone_after};
-use crate::between::{ending, going_on, has_begun, table_end};
+use crate::between::{ending, going_on, has_begun, has_end, table_end};
 use crate::read::read_runs;
 use crate::run::Run;
 use cal_zones::Zone;
@@ -16,12 +16,13 @@ pub struct GeneralZone {
 }
 
 impl GeneralZone {
-    ghost use Rattle.std.specs.Prelude.{◌≡◌, IfSome, IfOk, IfErr};
+    ghost use Rattle.std.specs.Prelude.{◌≡◌, false, IfSome, IfNone, IfOk, IfErr};
     ghost use Rattle.ical_lines.specs.Fault.{RefusesBy};
     ghost use Rattle.ical_tree.specs.Tree.{tree_of};
     ghost use Rattle.profile.specs.series.GeneralZoneTexts.{SaysGeneralZone, GeneralZoneFault};
     ghost use Rattle.profile.specs.series.GeneralZones.{IsSameFrom, IsSameBetween};
-    ghost use Rattle.profile.specs.doors.Adapting.{IsTableEnd, IsSameFor};
+    ghost use Rattle.profile.specs.doors.Adapting.{EndsBefore, IsTableEnd, ReachesTablesEnd, SetsBack};
+    ghost use Rattle.cal_doors.specs.Between.{GoesOnFrom};
     ghost use Rattle.cal_zones.specs.Kinds.{zone_of};
     ghost use Rattle.cal_doors.specs.Runs.{runs_in};
     ghost use Rattle.cal_doors.specs.Found.{general_of};
@@ -47,9 +48,11 @@ impl GeneralZone {
 
     /// The zone of the accepted form that does the same from an instant on: the same offset is in force at each instant, and each local time that no
     /// clock shows before it means the same. None where none is found. It is one offset where each onset after the instant
-    /// sets the one that is in force already, a single where one comes, and a pair where all that come are those of two endless rules.
+    /// sets the one that is in force already, a single where one comes, and a pair where all that come are those of two endless rules: STANDARD is then the one
+    /// that sets the clocks back.
     pub fn from_instant(&self, instant: i64) -> Option<Zone>
         ensures same { IfSome result (λ zone. IsSameFrom (general_of self.now) (zone_of zone) instant) }
+        ensures sides { IfSome result (λ zone. SetsBack (zone_of zone)) }
     {
         let runs = self.runs.as_slice();
         let offset = offset_at(runs, instant)?;
@@ -70,26 +73,66 @@ impl GeneralZone {
     /// force at each instant between, and each local time means the same that is shown neither before the one nor after the other. None
     /// where none is found: runs that would set nothing more up to the later instant go on after it, or else all end with it.
     pub fn between(&self, alloc: Global, from: i64, to: i64) -> Result<Option<Zone>, AllocError>
-        ensures { IfOk result (λ found. IfSome found (λ zone. IsSameBetween (general_of self.now) (zone_of zone) from to)) }
+        ensures same { IfOk result (λ found. IfSome found (λ zone. IsSameBetween (general_of self.now) (zone_of zone) from to)) }
+        ensures sides { IfOk result (λ found. IfSome found (λ zone. SetsBack (zone_of zone))) }
+    {
+        if let Some(zone) = self.beyond(alloc, from, to)? {
+            return Ok(Some(zone));
+        }
+        self.within(alloc, from, to)
+    }
+
+    /// The same zone, where runs that would set nothing more up to the later instant go on after it: then it always does the same from the first
+    /// instant on as the zone that goes on so.
+    pub(crate) fn beyond(
+        &self,
+        alloc: Global,
+        from: i64,
+        to: i64,
+    ) -> Result<Option<Zone>, AllocError>
+        ensures { IfOk result (λ found. IfSome found (λ zone. GoesOnFrom (general_of self.now) (zone_of zone) from to)) }
     {
         let runs = self.runs.as_slice();
         if !has_begun(runs, from) {
             return Ok(None);
         }
         let longer = GeneralZone::of(going_on(alloc, runs, to)?);
-        if let Some(zone) = longer.from_instant(from) {
-            return Ok(Some(zone));
+        Ok(longer.from_instant(from))
+    }
+
+    /// The same zone, where all runs end with the later instant.
+    fn within(&self, alloc: Global, from: i64, to: i64) -> Result<Option<Zone>, AllocError>
+        ensures same { IfOk result (λ found. IfSome found (λ zone. IsSameBetween (general_of self.now) (zone_of zone) from to)) }
+        ensures sides { IfOk result (λ found. IfSome found (λ zone. SetsBack (zone_of zone))) }
+    {
+        let runs = self.runs.as_slice();
+        if !has_begun(runs, from) {
+            return Ok(None);
         }
         let shorter = GeneralZone::of(ending(alloc, runs, to)?);
         Ok(shorter.from_instant(from))
     }
 
-    /// Where its table ends, in seconds from 1970-01-01T00:00:00Z: no onset before 2038-01-19T03:14:07Z, the end of times in 32 bits, is later, and an
-    /// onset or the UNTIL of a rule is in 2036 or later, before that. None where the table ends earlier, and where it is known to reach 2036 only
-    /// by onsets that are counted.
+    /// Where its table ends, in seconds from 1970-01-01T00:00:00Z: at the last instant before 2038-01-19T03:14:07Z, the end of times in 32 bits, at which
+    /// an onset or the UNTIL of a rule is, if one is in 2036 or later. COUNT is left aside, but that it reaches 2036 isn't known by onsets that
+    /// are counted. None where the table doesn't reach 2036 so.
     pub fn table_end(&self) -> Option<i64>
-        ensures { IfSome result (IsTableEnd (general_of self.now)) }
+        ensures end { IfSome result (IsTableEnd (general_of self.now)) }
+        ensures none { IfNone result (ReachesTablesEnd (general_of self.now) → ⊥) }
     {
         table_end(self.runs.as_slice())
+    }
+
+    /// Whether its table ends in 2036 or later, with no rule that goes on without an end, and local times don't that end by the last, if they end.
+    pub(crate) fn ends_before(&self, last: Option<i64>) -> bool
+        ensures { result ≡ false → EndsBefore (general_of self.now) last → ⊥ }
+    {
+        if last.is_some() {
+            return false;
+        }
+        let Some(to) = self.table_end() else {
+            return false;
+        };
+        has_end(self.runs.as_slice(), to)
     }
 }

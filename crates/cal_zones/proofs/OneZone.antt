@@ -36,22 +36,22 @@ same_both : {V : Type 0} (R : List ℕ → V → Type 0) → IsFunctional R → 
 same_both R f None v w h k = absurd h
 same_both R f (Some l) v w h k = f l v w h k
 
-said_same : {V : Type 0} (R : List ℕ → V → Type 0) (name : List ℕ) (lines : Lines) (v w : V) → IsFunctional R → Says name true R lines (Some v) → Says name true R lines (Some w) → v ≡ w
+pub said_same : {V : Type 0} (R : List ℕ → V → Type 0) (name : List ℕ) (lines : Lines) (v w : V) → IsFunctional R → Says name true R lines (Some v) → Says name true R lines (Some w) → v ≡ w
 said_same {V} R name lines v w f s t =
     same_both R f t.line v w (subst (λ (l : Option (List ℕ)). BothOrNeither R l (Some v)) (same_option s.line t.line (sym s.once ∙ t.once)) s.is) t.is
 
 -- what the line that is there says
-said_by : {V : Type 0} (R : List ℕ → V → Type 0) (name : List ℕ) (lines : Lines) (v : V) (line : List ℕ) → Says name true R lines (Some v) → Contains (lines_named name lines) line → R line v
+pub said_by : {V : Type 0} (R : List ℕ → V → Type 0) (name : List ℕ) (lines : Lines) (v : V) (line : List ℕ) → Says name true R lines (Some v) → Contains (lines_named name lines) line → R line v
 said_by {V} R name lines v line s c = subst (λ (o : Option (List ℕ)). BothOrNeither R o (Some v)) (only_line name lines s.line line s.once c) s.is
 
-present : {V : Type 0} (R : List ℕ → V → Type 0) (name : List ℕ) (lines : Lines) (v : V) → Says name true R lines (Some v) → IsMissing name lines → ⊥
+pub present : {V : Type 0} (R : List ℕ → V → Type 0) (name : List ℕ) (lines : Lines) (v : V) → Says name true R lines (Some v) → IsMissing name lines → ⊥
 present {V} R name lines v s h = go s.line (sym s.once ∙ h) s.is
   where
     go : (l : Option (List ℕ)) → option_to_list l ≡ [] → BothOrNeither R l (Some v) → ⊥
     go None e is = is
     go (Some x) e is = cc
 
-occurs_once : {V : Type 0} (R : List ℕ → V → Type 0) (name : List ℕ) (lines : Lines) (v : V) → Says name true R lines (Some v) → OccursMoreThanOnce name lines → ⊥
+pub occurs_once : {V : Type 0} (R : List ℕ → V → Type 0) (name : List ℕ) (lines : Lines) (v : V) → Says name true R lines (Some v) → OccursMoreThanOnce name lines → ⊥
 occurs_once {V} R name lines v s h = go s.line (ap length s.once)
   where
     go : (l : Option (List ℕ)) → length (lines_named name lines) ≡ length (option_to_list l) → ⊥
@@ -130,7 +130,7 @@ tree_parts t = record { sizes = sizes (tree_inside t); which = λ x c. which (tr
 
 -- ---- local times
 
-no_z : (text : List ℕ) (t : ℤ) → SpellsLocal text t → ends_in_z text ≡ true → ⊥
+pub no_z : (text : List ℕ) (t : ℤ) → SpellsLocal text t → ends_in_z text ≡ true → ⊥
 no_z text t c z =
     let a : text ≡ (four_digits c.on.year ++ two_digits c.on.month ++ two_digits c.on.day) ++ codes "T" ++ (two_digits c.at_second.hour ++ two_digits c.at_second.minute ++ two_digits c.at_second.second) =
     c.spelled ∙ ap (λ x. x ++ codes "T" ++ c.time) c.on.spelled
@@ -141,10 +141,10 @@ no_z text t c z =
 
 -- ---- what a part says
 
-observance_same : (a b : Observance) → a.day ≡ b.day → a.second ≡ b.second → a.rule ≡ b.rule → a.offset_from ≡ b.offset_from → a.offset_to ≡ b.offset_to → a ≡ b
+pub observance_same : (a b : Observance) → a.day ≡ b.day → a.second ≡ b.second → a.rule ≡ b.rule → a.offset_from ≡ b.offset_from → a.offset_to ≡ b.offset_to → a ≡ b
 observance_same a b p q r s t = λ i. record { day = p i; second = q i; rule = r i; offset_from = s i; offset_to = t i }
 
-year_rule_same : (a b : YearRule) → a.month ≡ b.month → a.days ≡ b.days → a ≡ b
+pub year_rule_same : (a b : YearRule) → a.month ≡ b.month → a.days ≡ b.days → a ≡ b
 year_rule_same a b p q = λ i. record { month = p i; days = q i }
 
 pub record SameTimes (a b : Observance) : Type 0 where
@@ -153,11 +153,18 @@ pub record SameTimes (a b : Observance) : Type 0 where
   pub from : a.offset_from ≡ b.offset_from
   pub to : a.offset_to ≡ b.offset_to
 
-same_day : (n s m r : ℕ) → local_time n s ≡ local_time m r → s < 86_400 → r < 86_400 → n ≡ m
+pub same_day : (n s m r : ℕ) → local_time n s ≡ local_time m r → s < 86_400 → r < 86_400 → n ≡ m
 same_day n s m r e h k = omega (arith, signed_arith)
 
-same_second : (n s m r : ℕ) → local_time n s ≡ local_time m r → s < 86_400 → r < 86_400 → s ≡ r
+pub same_second : (n s m r : ℕ) → local_time n s ≡ local_time m r → s < 86_400 → r < 86_400 → s ≡ r
 same_second n s m r e h k = omega (arith, signed_arith)
+
+-- what holds of the three holds of each name of a time
+pub each_name : (P : List ℕ → Type 0) (name : List ℕ) → Contains time_names name → P (codes "DTSTART") → P (codes "TZOFFSETFROM") → P (codes "TZOFFSETTO") → P name
+each_name P name (zero, w, e) a b c = subst P e a
+each_name P name (suc zero, w, e) a b c = subst P e b
+each_name P name (suc (suc zero), w, e) a b c = subst P e c
+each_name P name (suc (suc (suc k)), w, e) a b c = absurd (omega arith)
 
 module _ (local : OneLocal) (offset : OneOffset) (rules : OneRule) (sound : (text : List ℕ) (number : ℕ) (a : RuleText) → RuleFault text number → SpellsRule text a → ⊥) where
   local_one : IsFunctional IsLocalLine
@@ -244,12 +251,6 @@ module _ (local : OneLocal) (offset : OneOffset) (rules : OneRule) (sound : (tex
         | inl h ↦ (a, subst (λ (l : Lines). SaysPartTimes l a) (at_one p x (subst (λ (ls : List Lines). Contains ls x) e h)) s.times)
         | inr h ↦ (b, subst (λ (l : Lines). SaysPartTimes l b) (at_one q x (subst (λ (ls : List Lines). Contains ls x) f h)) t.times)
       ]
-
-  each_name : (P : List ℕ → Type 0) (name : List ℕ) → Contains time_names name → P (codes "DTSTART") → P (codes "TZOFFSETFROM") → P (codes "TZOFFSETTO") → P name
-  each_name P name (zero, w, e) a b c = subst P e a
-  each_name P name (suc zero, w, e) a b c = subst P e b
-  each_name P name (suc (suc zero), w, e) a b c = subst P e c
-  each_name P name (suc (suc (suc k)), w, e) a b c = absurd (omega arith)
 
   times_sound : (lines : Lines) (o : Observance) (n : ℕ) → SaysPartTimes lines o → TimesFault lines n → ⊥
   times_sound lines o n s (dates f) = f s.no_dates

@@ -1,14 +1,14 @@
 -- An answer to an object, told in the words of that object: with its names of zones, its VTIMEZONEs, and its text for an instance (RFC 5545
 -- 3.2.19, 3.8.4.4). Programs look a zone up by its name, and compare RECURRENCE-ID as text.
-use Rattle.std.specs.Prelude.{◌≡◌, ℕ, ◌⊎◌, true, List, [], ◌∷◌, codes, Contains, Option, None, Some, ℤ}
+use Rattle.std.specs.Prelude.{◌≡◌, ℕ, ◌⊎◌, true, List, [], ◌∷◌, filter, codes, Contains, Option, None, Some, ℤ}
 use Rattle.std.specs.List.{AllZip}
-use Rattle.profile.specs.text.Lines.{line_name, line_value, line_param}
-use Rattle.profile.specs.text.Trees.{Tree, tree_own, vevents}
+use Rattle.profile.specs.text.Lines.{line_name, line_value, line_param, is_same_name}
+use Rattle.profile.specs.text.Trees.{Tree, tree_name, tree_own, tree_inside, vevents}
 use Rattle.profile.specs.series.Zones.{Zone}
 use Rattle.profile.specs.events.Properties.{Fixed, is_of, time_kind}
 use Rattle.profile.specs.events.ZonedTimes.{SaysZoneOf, SaysInstant, zone_named}
 use Rattle.profile.specs.doors.Uses.{NamesZone, is_time_line}
-use Rattle.profile.specs.doors.Adapting.{IsAdapted, IsOf}
+use Rattle.profile.specs.doors.Adapting.{IsAdapted, IsOf, without_zones}
 
 -- the object as a room reads it: as it came, or made readable
 abbrev pub IsRead : Option Tree → List ℕ → Tree → Type 0
@@ -48,12 +48,16 @@ pub record IsReturned (listed : Option Tree) (original answer returned : List �
   pub events : AllZip (AllZip (TellsSame read told)) (vevents told) (vevents given)
   pub zones : (name : List ℕ) → NamesZone given name → (zone : Tree) × (zone_named name given ≡ Some zone) × IsItsZone asked read name zone
 
+-- the VEVENTs directly inside, in order, with all that is inside them
+abbrev pub event_trees : Tree → List Tree
+event_trees t = filter (λ part. is_same_name (tree_name part) (codes "VEVENT")) (tree_inside t)
+
 -- the octets are an object, and these are objects of one VEVENT each: its VEVENTs in order, each with the own lines of the object, and each name
--- means the same VTIMEZONE
+-- means the same VTIMEZONE. But for VTIMEZONEs such a VEVENT, with all that is inside it, is all that is inside its part
 pub record IsSplit (octets : List ℕ) (parts : List (List ℕ)) : Type 0 where
   pub whole : Tree
   pub is_whole : IsOf octets whole
   pub trees : List Tree
   pub are : AllZip IsOf parts trees
-  pub each : AllZip (λ lines part. (vevents part ≡ lines ∷ []) × (tree_own part ≡ tree_own whole)
-      × ((name : List ℕ) → NamesZone part name → zone_named name part ≡ zone_named name whole)) (vevents whole) trees
+  pub each : AllZip (λ event part. (vevents part ≡ tree_own event ∷ []) × (without_zones part ≡ event ∷ []) × (tree_own part ≡ tree_own whole)
+      × ((name : List ℕ) → NamesZone part name → zone_named name part ≡ zone_named name whole)) (event_trees whole) trees

@@ -91,11 +91,12 @@ IsLastOnsetDay o Never last = ⊥
 IsLastOnsetDay o (AfterCount count) last = ⊥
 IsLastOnsetDay o (AtInstant until) last = (day : ℕ) → (local_time day o.second ≤ℤ (until +ℤ o.offset_from)) ↔ (day ≤ last)
 
--- the text is a rule that UNTIL ends, of whatever form, and these are its days from DTSTART on (RFC 5545 3.3.10): at most 200, and over at most
+-- the text is a rule that UNTIL ends, of another form, and these are its days from DTSTART on (RFC 5545 3.3.10): at most 200, and over at most
 -- 40 years, this profile's choice
 pub record SpellsOnsetDays (o : Observance) (text : List ℕ) (days : List ℕ) : Type 0 where
   pub rule : RuleText
   pub spelled : SpellsRule text rule
+  pub not_one_day : (each : YearRule) → is_one_day (without_end (on_day_of_start o.day rule)) each ≡ true → ⊥
   pub end : End
   pub ends : IsEndOf o.offset_from rule.count rule.until end
   pub last : ℕ

@@ -3,7 +3,7 @@ use Rattle.std.specs.List.{AllZip}
 use Rattle.ical_tree.specs.Tree.{component_children, tree_of}
 use Rattle.profile.specs.text.Lines.{logical_lines, reads_as_lines}
 use Rattle.profile.specs.text.Objects.{IsObject}
-use Rattle.cal_doors.specs.Told.{events_among, IsSingleOf}
+use Rattle.cal_doors.specs.Told.{trees_among, IsSingleOf}
 use Rattle.cal_doors.proofs.RightGiven.{of_some}
 use Rattle.cal_doors.proofs.ToldRight.{split_right}
 use Rattle.cal_doors.proofs.ToldEvents.{octets_each}
@@ -17,5 +17,5 @@ returns c =
     let parts = c.in-Some-3.parts in
     let reads = of_some _ text (λ t. (t ≡ logical_lines octets) × (reads_as_lines true octets ≡ true)) c.in-Some.is c.in_ok-text.ensures in
     let spelled = of_some _ whole (λ o. IsObject true (tree_of o) text) c.in-Some-2.is c.in_ok-whole.ensures in
-    let each = of_some _ parts (λ ps. AllZip (IsSingleOf (tree_of whole)) (events_among (component_children whole)) (octets_each ps.items)) c.in-Some-3.is c.in_ok-parts.ensures in
+    let each = of_some _ parts (λ ps. AllZip (IsSingleOf (tree_of whole)) (trees_among (component_children whole)) (octets_each ps.items)) c.in-Some-3.is c.in_ok-parts.ensures in
     split_right whole octets text (octets_each parts.items) reads.0 reads.1 spelled each

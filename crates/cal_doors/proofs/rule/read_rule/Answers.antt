@@ -56,4 +56,4 @@ returns-clause-says c =
     let there : c.rule_end.result ≡ Some c.in_ok-end.end = c.ok_or.ensures.ok_part ∙ ap result_ok c.in_ok-end.was in
     let ends = subst (λ (x : Option rust.End). IfSome x (λ e. IsEndOf c.args.from rule.count rule.until (end_of e))) there c.rule_end.ensures.found in
     let are : AreDaysTo rule (day_index first.result.0) c.last_day.result _ = rw c.in-Some-2.is at c.in_ok-days.ensures in
-    λ o has. days_to_last c.args.start c.args.from c.args.text.now (day_index first.result.0) rule is o (end_of c.in_ok-end.end) c.last_day.result _ has ends c.last_day.ensures are
+    λ o has. days_to_last c.args.start c.args.from c.args.text.now (day_index first.result.0) rule is o (end_of c.in_ok-end.end) c.last_day.result _ has ends c.last_day.ensures c.in_default.ensures.none are
