@@ -27,9 +27,11 @@ NAMED = {
     "a series isn't compared with itself": ("series_not_compared_with_itself", "a_series_not_compared_with_itself"),
     "a CANCEL of a meeting that isn't known is dropped": ("unknown_cancel_dropped",),
     "a room that one override alone names is dropped": ("room_named_in_one_override_dropped",),
-    "a declined revision keeps the older booking; an invented decline; a repeat is answered anew": ("older_booking_kept", "invented_clash", "repeat_answered_anew"),
+    "a declined revision keeps the older booking; an invented decline": ("older_booking_kept", "invented_clash"),
+    "a reply is computed anew on a repeat": ("reply_computed_anew_on_a_repeat", "repeat_answered_anew"),
     "the checker ignores the certificate, or always says no; an invented count of draws": (
         "checker_ignores_the_certificate", "checker_makes_its_own_certificate", "checker_always_says_no", "an_invented_count_of_draws"),
+    "a group's sweep looks at no pair of one series": ("clashes_within_a_series_of_a_group_pass",),
     "one period for all pairs; a period that begins before a late exception; compared without the width": (
         "one_period_for_all", "a_period_begins_before_a_late_exception", "compared_without_the_width"),
     "always END; entries copied by position; a new series given the entries of another": (

@@ -355,6 +355,16 @@ def temporaries(cases, parent):
     cases.holds("a temporary with a beginning of an answer", (boxes.run(), boxes.answers().get(named(4, end="out")), TEMPORARY in boxes.names()), (DONE, accepted("d"), False))
 
 
+def temporary_in_a_listing(cases, parent):
+    """What is listed behind a file of the temporary's name is answered too. The system lists in an order of its own, so names stand on both sides of it."""
+    boxes = Boxes(parent)
+    for number in range(1, 101):
+        boxes.put(named(number), "")
+        if number == 50:
+            boxes.put(TEMPORARY, "left by another program")
+    cases.holds("a temporary among the files of an inbox", (boxes.run(), boxes.names()), (DONE, [named(number, end="out") for number in range(1, 101)]))
+
+
 def order_of_calls(cases, parent):
     """The folder is synced before anything else is done in it; each answer is synced before it gets its name, and the folder after that."""
     if not shutil.which("strace"):
@@ -560,7 +570,7 @@ def on_a_terminal(cases, parent):
 
 def main():
     cases = Cases()
-    parts = [two_and_a_third, whole_and_empty, longest, order_of_names, books_over_all, other_names, of_no_use, without_leave, configurations, usage, temporaries, order_of_calls,
+    parts = [two_and_a_third, whole_and_empty, longest, order_of_names, books_over_all, other_names, of_no_use, without_leave, configurations, usage, temporaries, temporary_in_a_listing, order_of_calls,
              failing_calls, on_a_terminal, full_disk, vanished, killed]
     with tempfile.TemporaryDirectory(dir=sys.argv[2] if len(sys.argv) > 2 else None) as parent:
         os.chmod(parent, 0o755)

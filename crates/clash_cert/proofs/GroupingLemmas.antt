@@ -51,7 +51,7 @@ apart_or members pairs p there = elim (cases_Bool (are_among members p)) [
 
 -- ---- series by their numbers
 
-element_at : {X : Type 0} (xs : List X) (k : ℕ) → k < length xs → (x : X) × (slice_get xs k ≡ Some x)
+pub element_at : {X : Type 0} (xs : List X) (k : ℕ) → k < length xs → (x : X) × (slice_get xs k ≡ Some x)
 element_at [] k within = absurd (omega (arith, within))
 element_at (x ∷ xs) zero within = (x, refl)
 element_at (x ∷ xs) (suc k) within = element_at xs k (omega (arith, within))

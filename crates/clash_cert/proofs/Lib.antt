@@ -20,4 +20,5 @@ pub mod LookedLemmas
 pub mod ChosenLemmas
 pub mod MarkLemmas
 pub mod GroupingLemmas
+pub mod OneMade
 mod Worked

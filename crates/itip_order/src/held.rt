@@ -3,7 +3,7 @@
 //! One register for each slot, in the order of organiser, UID, slot, so a slot is found by binary search.
 //! A tombstone stays for good, also one of a meeting of which nothing was ever taken.
 
-ghost use Rattle.std.specs.Prelude.{◌≡◌, ◌<◌, ◌≤◌, ◌+◌, ◌^◌, true, false, Contains, List, [], ◌∷◌, ◌++◌, length, IsTrue, IfOk, OnOk, OnErr};
+ghost use Rattle.std.specs.Prelude.{◌≡◌, ◌<◌, ◌≤◌, ◌+◌, ◌^◌, ◌&&◌, not, true, false, Contains, List, [], ◌∷◌, ◌++◌, length, IsTrue, IfOk, OnOk, OnErr};
 ghost use Rattle.std.specs.Prelude.{if◌then◌else◌};
 ghost use Rattle.std.specs.Iterator.{YieldsFirstBy, item_count};
 ghost use Rattle.std.specs.List.{insert};
@@ -110,6 +110,15 @@ impl Held {
             → result ≡ revisions.in_view history (part_of part.now) }
     {
         self.alone().shows(part)
+    }
+
+    /// Whether a part is in the view of what was taken since too, and isn't in this one: what is new gets an answer, and a repeat keeps the one
+    /// that it has. Takes no memory.
+    pub fn is_new_in(&self, after: &Together<'_>, part: &Part) -> bool
+        ensures { (before later : List revisions.Part) → RepresentsHistory self.now before → RepresentsHistory after.now later
+            → result ≡ (revisions.in_view later (part_of part.now) && not (revisions.in_view before (part_of part.now))) }
+    {
+        after.shows(part) && !self.shows(part)
     }
 
     /// Its parts, as those of two values of which the other took none. Takes no memory.

@@ -1,6 +1,7 @@
 pub mod Runs
 pub mod KeptRuns
 pub mod OneAnswer
+pub mod OneKept
 pub mod KeptMeetings
 pub mod KeptCalendars
 pub mod KeptStreams

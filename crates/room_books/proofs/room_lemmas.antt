@@ -19,3 +19,4 @@ pub mod RoomSeries
 pub mod PutSeries
 pub mod WholeDeciding
 pub mod AllConfirmed
+pub mod OneText

@@ -15,7 +15,7 @@ use Rattle.profile.specs.checker.Calendars.{SpellsCalendar}
 use Rattle.profile.specs.checker.Instances.{Instance}
 use Rattle.profile.specs.events.Confirmed.{Confirmed, IsOneOf}
 use Rattle.profile.specs.rooms.Rooms.{Claim, PartAnswer as SaidAnswer, Book, Confirms, confirmed_series, confirmed_singles, is_accept, is_confirmed, is_set}
-use Rattle.profile.specs.rooms.Kept.{first_parts, Shown, Hidden, IsKeptEvent}
+use Rattle.profile.specs.rooms.Kept.{first_parts, Shown, Hidden, IsKeptCalendar, IsKeptEvent}
 use Rattle.profile.specs.text.Lines.{written}
 use Rattle.itip_messages.specs.Zones.{with_zones}
 use Rattle.room_books.specs.declared.kept.Meeting.{Meeting}
@@ -58,6 +58,10 @@ pub record KeepsReached (room : List ℕ) (zone : Option Zone) (entries : List (
   pub reached : IsReached room zone book
   pub represents : Represents entries book
   pub spells : SpellsConfirmed room book calendar
+
+-- the octets are the kept calendar of each book that the meetings of a room represent
+abbrev pub IsKeptBy : List ℕ → List ℕ → List (MeetingKey × Meeting) → List ℕ → Type 0
+IsKeptBy room words entries calendar = (book : Book) → Represents entries book → IsKeptCalendar room words book calendar
 
 -- ---- by the meetings
 

@@ -101,7 +101,10 @@ impl<'a> Views<'a> {
         ensures { (before after : List revisions.Part) → HasHistory (option_copied self.now.before) before → RepresentsHistory self.now.after.now after
             → result ≡ rooms.is_fresh before after (part_of part.now) }
     {
-        self.shows(part) && !self.showed(part)
+        match self.before {
+            Some(meeting) => meeting.held.is_new_in(self.after, part),
+            None => self.shows(part),
+        }
     }
 
     /// Whether a part is in the view before and after.

@@ -14,6 +14,7 @@ ghost use Rattle.profile.specs.Headline.{AcceptedWhereClear, DeclineNamesClash};
 ghost use Rattle.itip_messages.specs.Law.{AreTextAnswers};
 
 use cal_events::one_calendar_text;
+use ical_values::stamp::one_stamp;
 
 /// Whatever messages a room took, one after another from the first: no two of its confirmed instances of
 /// different keys hold the room in the same second, and its series and its single instances are within their limits.
@@ -56,6 +57,14 @@ pub fn kept_texts_pass()
     one_calendar_text();
     ical_lines::lines_read_back();
     cal_zones::zone_reads_back();
+}
+
+/// A book to which messages led has one kept calendar: two texts that are that are equal.
+pub fn one_kept_calendar()
+    ensures { (room words : List ℕ) (zone : Option Zone) (book : Book) (x y : List ℕ) → IsReached room zone book
+        → IsKeptCalendar room words book x → IsKeptCalendar room words book y → x ≡ y }
+{
+    one_stamp();
 }
 
 /// The kept calendar of a room spells exactly what the room has confirmed: as many singles, as many series, and the same instances.

@@ -23,7 +23,7 @@ mod timeline;
 pub use answer::{Answer, Kind, LimitKind};
 pub use laws::{
     accepted_where_clear, answers_name_texts, answers_stay, kept_texts_pass, kept_texts_spell,
-    runs_stay_clear, served_texts_pass,
+    one_kept_calendar, runs_stay_clear, served_texts_pass,
 };
 pub use room::Room;
 pub use texts::KeptTexts;

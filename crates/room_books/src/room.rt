@@ -23,7 +23,7 @@ ghost use Rattle.profile.specs.rooms.Kept.{IsKeptCalendar, IsKeptCertificate, Re
 ghost use Rattle.room_books.specs.Gone.{IsPartedInto, Shifts};
 ghost use Rattle.room_books.specs.Meeting.{same_key, all_confirmed, all_singles, outcome_of, confirmed_at, singles_by, others, AreAllApart, all_recurring, all_series, beside, in_room, series_at, series_by, AreFewer, AreRecurring, IsClearIn, MayJoin};
 ghost use Rattle.cal_events.specs.declared.instance.Single.{Single};
-ghost use Rattle.room_books.specs.Texts.{KeepsReached, SpellsConfirmed};
+ghost use Rattle.room_books.specs.Texts.{IsKeptBy, KeepsReached, SpellsConfirmed};
 ghost use Rattle.room_books.specs.Timeline.{IsTimelineOf};
 ghost use Rattle.room_books.specs.Taking.{answers_by, answers_then, claims_said, held_after, kept_then, kind_view, parts_said, refresh_octets, reply_octets, HasHistory, IsMadeOf, AreAnswersDecided, IsKindIn, MayJoinAll};
 ghost use Rattle.room_books.specs.Slots.{AreAnswersBySlot};
@@ -37,7 +37,7 @@ use crate::claims::claims_of;
 use crate::confirming::{count_series, singles_of};
 use crate::decide::{Deciding, Meetings, candidates, decided, keys_differ};
 use crate::kept::{Changes, Meeting};
-use crate::laws::{kept_texts_pass, kept_texts_spell};
+use crate::laws::{kept_texts_pass, kept_texts_spell, one_kept_calendar};
 use crate::meeting::{MeetingKey, Outcome, PartAnswer};
 use crate::refresh::refresh_to;
 use crate::reply::reply_to;
@@ -198,15 +198,22 @@ impl Room {
         Ok(text)
     }
 
-    /// The certificate that holds for the kept calendar.
+    /// The certificate that holds for the kept calendar: for the octets that `calendar_text` gives, as there are no others.
     pub fn certificate_text(&self) -> Result<Vec<u8>, AllocError>
-        ensures { IfOk result (λ text. (calendar : List ℕ) × ((book : Book) → Represents self.now.meetings.entries book → IsKeptCalendar (address_octets self.now.address) (words_of self.now.zone) book calendar)
+        ensures kept { IfOk result (λ text. (calendar : List ℕ) × IsKeptBy (address_octets self.now.address) (words_of self.now.zone) self.now.meetings.entries calendar
             × IsKeptCertificate (address_octets self.now.address) calendar text.items) }
+        ensures made { IfOk result (λ text. (calendar : List ℕ) → IsKeptBy (address_octets self.now.address) (words_of self.now.zone) self.now.meetings.entries calendar
+            → IsKeptCertificate (address_octets self.now.address) calendar text.items) }
+        ensures passes { IfOk result (λ text. (calendar : List ℕ) → IsKeptBy (address_octets self.now.address) (words_of self.now.zone) self.now.meetings.entries calendar
+            → KeptTextsPass (address_octets self.now.address) calendar text.items) }
     {
+        // Only for the proof: there is one kept calendar.
+        one_kept_calendar();
+        let texts = self.kept()?;
         let KeptTexts {
             calendar: _,
             certificate,
-        } = self.kept()?;
+        } = texts;
         Ok(certificate)
     }
 

@@ -2,4 +2,5 @@ pub mod Calls
 pub mod Folder
 pub mod Input
 pub mod Memory
+pub mod Noted
 pub mod Output

@@ -1,10 +1,14 @@
 //! A folder in memory, for tests: it tells what it holds and what a stop may leave of it, and fails where it is told to.
 //! Each call looks through all of its files, and it keeps each content that it had: it is for few and small files.
 
-ghost use Rattle.std.specs.Prelude.{◌≡◌, ◌∷◌, [], ℕ, List, true, false, None, Some, length, option_map, IfOk, OnOk, OnErr};
+ghost use Rattle.std.specs.Prelude.{◌≡◌, ◌≤◌, ◌⊎◌, ◌∷◌, [], ℕ, List, true, false, None, Some, length, map, option_map, string_bytes, IfOk, OnOk, OnErr, IsErrOf, IsNone};
 ghost use Rattle.std.specs.Option.{option_or};
-ghost use Rattle.profile.specs.streams.Folders.{AreSame, Elapses, Image, with_files};
+ghost use Rattle.profile.specs.streams.Folders.{AreNames, AreNamesSynced, AreSame, Elapses, Image, MayBePublished, with_files};
+ghost use Rattle.sched_devices.specs.Folder.{HasCause, IsKept, IsPublished, IsUnpublished};
 ghost use Rattle.sched_devices.specs.Memory.{AreApart, HeldFile, LeftSince, MayLeave, file_named, held_may_stay, image_of, left_under, no_temporary, only_left};
+ghost use Rattle.sched_devices.specs.Noted.{IsNoted, IsPublishOf, IsReadOf, IsTooLong};
+ghost use Rattle.sched_devices.specs.declared.call_log.Call.TheVariants.{Names, WriteTemp, SyncTemp, SyncDir};
+ghost use Rattle.sched_devices.specs.declared.folder.FolderFault.TheVariants.{Device, Missing, Exists, Memory};
 ghost use Rattle.std.proofs.Common.{inl};
 
 use crate::call_log::{Call, CallLog};
@@ -183,14 +187,31 @@ impl Folder for MemoryFolder {
 
     ghost only_now = { λ folder left since. only_left folder.past.items folder.files.items left since };
 
-    fn names(&mut self, alloc: Global) -> Result<Vec<String>, FolderFault> {
+    fn names(&mut self, alloc: Global) -> Result<Vec<String>, FolderFault>
+        ensures names { IfOk result (λ names. AreNames (image_of self.old.files.items) (map string_bytes names.items)) }
+        ensures kept { IsKept (λ _. true) (λ (f : MemoryFolder). image_of f.files.items) (λ f. f.temporary) (λ f. MayLeave f.files.items) self.old self.new }
+        ensures time { Elapses (length self.old.past.items) (length self.new.past.items) (LeftSince self.old.past.items self.old.files.items) (LeftSince self.new.past.items self.new.files.items) (MayLeave self.new.files.items) }
+        ensures not_missing { IsErrOf result Missing → ⊥ }
+        ensures not_existing { IsErrOf result Exists → ⊥ }
+        ensures cause { HasCause self.old.log.failures self.new.log.failures (IsErrOf result Device) }
+        ensures noted { IsNoted (λ call. call ≡ Names) self.old.log self.new.log (IsErrOf result Memory) (IsErrOf result Device) ⊥ }
+    {
         let names = names_of(alloc, &self.files)?;
         self.log.begin(Call::Names)?;
         self.log.end()?;
         Ok(names)
     }
 
-    fn read(&mut self, alloc: Global, name: &str) -> Result<Vec<u8>, FolderFault> {
+    fn read(&mut self, alloc: Global, name: &str) -> Result<Vec<u8>, FolderFault>
+        ensures bytes { IfOk result (λ bytes. image_of self.old.files.items name.now ≡ Some bytes.items) }
+        ensures few { IfOk result (λ bytes. length bytes.items ≤ 1_073_741_824) }
+        ensures kept { IsKept (λ _. true) (λ (f : MemoryFolder). image_of f.files.items) (λ f. f.temporary) (λ f. MayLeave f.files.items) self.old self.new }
+        ensures time { Elapses (length self.old.past.items) (length self.new.past.items) (LeftSince self.old.past.items self.old.files.items) (LeftSince self.new.past.items self.new.files.items) (MayLeave self.new.files.items) }
+        ensures missing { IsErrOf result Missing → (image_of self.old.files.items name.now ≡ None) }
+        ensures not_existing { IsErrOf result Exists → ⊥ }
+        ensures cause { HasCause self.old.log.failures self.new.log.failures (IsErrOf result Device) }
+        ensures noted { IsNoted (IsReadOf name.now) self.old.log self.new.log (IsErrOf result Memory) (IsErrOf result Device) (IsTooLong (image_of self.old.files.items name.now)) }
+    {
         let octets = octets_of(alloc, &self.files, name)?;
         let call = Call::Read(String::from_str(self.alloc, name)?);
         self.log.begin(call)?;
@@ -202,7 +223,17 @@ impl Folder for MemoryFolder {
         }
     }
 
-    fn write_temp(&mut self, bytes: &[u8]) -> Result<(), FolderFault> {
+    fn write_temp(&mut self, bytes: &[u8]) -> Result<(), FolderFault>
+        ensures written { OnOk result (self.new.temporary.is_there ≡ true) }
+        ensures octets { OnOk result (self.new.temporary.octets ≡ bytes.now) }
+        ensures image { image_of self.new.files.items ≡ image_of self.old.files.items }
+        ensures stop { (left : Image) → MayLeave self.new.files.items left → MayLeave self.old.files.items left }
+        ensures time { Elapses (length self.old.past.items) (length self.new.past.items) (LeftSince self.old.past.items self.old.files.items) (LeftSince self.new.past.items self.new.files.items) (MayLeave self.new.files.items) }
+        ensures not_missing { IsErrOf result Missing → ⊥ }
+        ensures not_existing { IsErrOf result Exists → ⊥ }
+        ensures cause { HasCause self.old.log.failures self.new.log.failures (IsErrOf result Device) }
+        ensures noted { IsNoted (λ call. call ≡ WriteTemp) self.old.log self.new.log (IsErrOf result Memory) (IsErrOf result Device) ⊥ }
+    {
         let octets = bytes.to_vec(self.alloc)?;
         self.log.begin(Call::WriteTemp)?;
         self.temporary.write(octets);
@@ -211,7 +242,19 @@ impl Folder for MemoryFolder {
         Ok(())
     }
 
-    fn sync_temp(&mut self) -> Result<(), FolderFault> {
+    fn sync_temp(&mut self) -> Result<(), FolderFault>
+        requires { self.old.temporary.is_there ≡ true }
+        ensures there { self.new.temporary.is_there ≡ true }
+        ensures synced { OnOk result (self.new.temporary.is_synced ≡ true) }
+        ensures octets { self.new.temporary.octets ≡ self.old.temporary.octets }
+        ensures image { image_of self.new.files.items ≡ image_of self.old.files.items }
+        ensures stop { (left : Image) → MayLeave self.new.files.items left → MayLeave self.old.files.items left }
+        ensures time { Elapses (length self.old.past.items) (length self.new.past.items) (LeftSince self.old.past.items self.old.files.items) (LeftSince self.new.past.items self.new.files.items) (MayLeave self.new.files.items) }
+        ensures not_missing { IsErrOf result Missing → ⊥ }
+        ensures not_existing { IsErrOf result Exists → ⊥ }
+        ensures cause { HasCause self.old.log.failures self.new.log.failures (IsErrOf result Device) }
+        ensures noted { IsNoted (λ call. call ≡ SyncTemp) self.old.log self.new.log (IsErrOf result Memory) (IsErrOf result Device) ⊥ }
+    {
         self.log.begin(Call::SyncTemp)?;
         self.temporary.sync();
         self.log.end()?;
@@ -219,7 +262,20 @@ impl Folder for MemoryFolder {
     }
 
     #[tactic(auto, using(crate::proofs::HeldFiles::may_stay))]
-    fn publish(&mut self, name: &str) -> Result<(), FolderFault> {
+    fn publish(&mut self, name: &str) -> Result<(), FolderFault>
+        requires { self.old.temporary.is_there ≡ true }
+        ensures published { OnOk result (IsPublished (image_of self.old.files.items) (image_of self.new.files.items) name.now self.old.temporary) }
+        ensures taken { OnOk result (self.new.temporary.is_there ≡ false) }
+        ensures whole { OnErr result (IsUnpublished (image_of self.old.files.items) (image_of self.new.files.items) (MayLeave self.old.files.items) (MayLeave self.new.files.items)
+            ⊎ IsPublished (image_of self.old.files.items) (image_of self.new.files.items) name.now self.old.temporary) }
+        ensures stop { MayBePublished self.old.temporary name.now (MayLeave self.old.files.items) (MayLeave self.new.files.items) }
+        ensures time { Elapses (length self.old.past.items) (length self.new.past.items) (LeftSince self.old.past.items self.old.files.items) (LeftSince self.new.past.items self.new.files.items) (MayLeave self.new.files.items) }
+        ensures existing { IsErrOf result Exists → (IsNone (image_of self.old.files.items name.now) → ⊥)
+            × IsKept (λ _. true) (λ (f : MemoryFolder). image_of f.files.items) (λ f. f.temporary) (λ f. MayLeave f.files.items) self.old self.new }
+        ensures not_missing { IsErrOf result Missing → ⊥ }
+        ensures cause { HasCause self.old.log.failures self.new.log.failures (IsErrOf result Device) }
+        ensures noted { IsNoted (IsPublishOf name.now) self.old.log self.new.log (IsErrOf result Memory) (IsErrOf result Device) ⊥ }
+    {
         let call = Call::Publish(String::from_str(self.alloc, name)?);
         if has_file(&self.files, name) {
             self.log.begin(call)?;
@@ -237,7 +293,15 @@ impl Folder for MemoryFolder {
         Ok(())
     }
 
-    fn sync_dir(&mut self) -> Result<(), FolderFault> {
+    fn sync_dir(&mut self) -> Result<(), FolderFault>
+        ensures synced { OnOk result (AreNamesSynced (image_of self.old.files.items) (MayLeave self.old.files.items) (MayLeave self.new.files.items)) }
+        ensures kept { IsKept (λ _. true) (λ (f : MemoryFolder). image_of f.files.items) (λ f. f.temporary) (λ f. MayLeave f.files.items) self.old self.new }
+        ensures time { Elapses (length self.old.past.items) (length self.new.past.items) (LeftSince self.old.past.items self.old.files.items) (LeftSince self.new.past.items self.new.files.items) (MayLeave self.new.files.items) }
+        ensures not_missing { IsErrOf result Missing → ⊥ }
+        ensures not_existing { IsErrOf result Exists → ⊥ }
+        ensures cause { HasCause self.old.log.failures self.new.log.failures (IsErrOf result Device) }
+        ensures noted { IsNoted (λ call. call ≡ SyncDir) self.old.log self.new.log (IsErrOf result Memory) (IsErrOf result Device) ⊥ }
+    {
         let files = names_synced(self.alloc, &self.files)?;
         keep(self.alloc, &self.files, &mut self.past)?;
         self.log.begin(Call::SyncDir)?;

@@ -5,6 +5,6 @@ use Rattle.sched_devices.proofs.HeldFiles.{all_names}
 use Rattle.sched_devices.proofs.memory_folder.MemoryFolderFolder.names.Goals as goal
 
 pub returns-clause-names : goal.returns-clause-names
-returns-clause-names c known =
+returns-clause-names c =
     let files = c.args.self.now.files.items in
     subst (AreNames (image_of files)) (sym (c.in_ok-names.ensures ∙ ap names_held c.deref.ensures.value)) (all_names files c.args.self.now.apart)
