@@ -130,12 +130,106 @@ def boxes(cases, program, parent):
     cases.holds("no outbox", run(program, "box", str(config), str(inbox), str(absent)), (4, "", f"roombox: device\nroombox: {absent}: it isn't there\n"))
 
 
+def files_that_fail(cases, program, parent):
+    """Behind `roombox: device` the file that failed, and why."""
+    number = 0
+
+    def box(prepare, *words, **how):
+        nonlocal number
+        number += 1
+        folder = parent / str(number)
+        folder.mkdir()
+        inbox, outbox, config = folder / "inbox", folder / "outbox", folder / "config"
+        for made in (inbox, outbox):
+            made.mkdir()
+        config.write_text(f"room {R1}\n")
+        (inbox / "00000001-20250102T000000Z.ics").write_bytes(changed({}).encode())
+        at, why = prepare(inbox, outbox)
+        ended = subprocess.run([program, "box", *words, str(config), str(inbox), str(outbox)], capture_output=True, timeout=300, check=False, **how)
+        lines = f"roombox: device\nroombox: {at}: {why}\n"
+        return (ended.returncode, ended.stdout.decode(), ended.stderr.decode()), (4, "", lines)
+
+    second = "00000002-20250102T000000Z.ics"
+
+    def folder_as_message(inbox, outbox):
+        (inbox / second).mkdir()
+        return inbox / second, "it is a folder"
+
+    def dangling_link(inbox, outbox):
+        (inbox / second).symlink_to("nothing")
+        return inbox / second, "it isn't there"
+
+    def circle_of_links(inbox, outbox):
+        (inbox / second).symlink_to(second)
+        return inbox / second, "its links lead in a circle"
+
+    def long_message(inbox, outbox):
+        with open(inbox / second, "wb") as long:
+            long.truncate(1_073_741_825)
+        return inbox / second, "it is too long"
+
+    def temporary_is_folder(inbox, outbox):
+        (outbox / ".roombox-temporary").mkdir()
+        return outbox / ".roombox-temporary", "it is a folder"
+
+    def answer_without_text(inbox, outbox):
+        with open(os.fsencode(outbox) + b"/\xffa.out", "wb"):
+            pass
+        return f"{outbox}/%FFa.out", "its name isn't UTF-8, or is too long"
+
+    def message_without_text(inbox, outbox):
+        with open(os.fsencode(inbox) + b"/\xffa.ics", "wb"):
+            pass
+        return f"{inbox}/%FFa.ics", "its name isn't UTF-8, or is too long"
+
+    def unreadable(inbox, outbox):
+        (inbox / second).write_bytes(b"")
+        os.chmod(inbox / second, 0o600)
+        os.chown(outbox, NOBODY, NOBODY)
+        return inbox / second, "permission is denied"
+
+    def unwritable(inbox, outbox):
+        return outbox / ".roombox-temporary", "permission is denied"
+
+    for prepare in (folder_as_message, dangling_link, circle_of_links, temporary_is_folder, answer_without_text, message_without_text):
+        for words in ([], ["--report"]):
+            cases.holds(f"a box and {prepare.__name__} {words}", *box(prepare, *words))
+    cases.holds("a box and a message that is too long", *box(long_message))
+    for prepare in (folder_as_message, dangling_link):
+        cases.holds(f"a box behind the door and {prepare.__name__}", *box(prepare, "--adapt"))
+    if os.geteuid() == 0:
+        os.chmod(parent, 0o755)
+        for prepare in (unreadable, unwritable):
+            cases.holds(f"a box and {prepare.__name__}", *box(prepare, user=NOBODY))
+
+
+def full_disk(cases, program, parent):
+    """The file that no space is left for; left out where nothing can be mounted."""
+    outbox = parent / "outbox"
+    outbox.mkdir()
+    if subprocess.run(["mount", "-t", "tmpfs", "-o", "size=4k", "none", str(outbox)], capture_output=True, check=False).returncode != 0:
+        print("left out, as nothing can be mounted: a disk that is full")
+        return
+    try:
+        (parent / "inbox").mkdir()
+        (parent / "config").write_text(f"room {R1}\n")
+        (outbox / "filling").write_bytes(b"x" * 4096)
+        (parent / "inbox" / "00000001-20250102T000000Z.ics").write_bytes(changed({}).encode())
+        words = [program, "box", str(parent / "config"), str(parent / "inbox"), str(outbox)]
+        said = run(*words)
+        cases.holds("a box onto a full disk", said, (4, "", f"roombox: device\nroombox: {outbox}/.roombox-temporary: no space is left\n"))
+        subprocess.run(["mount", "-o", "remount,ro", str(outbox)], check=True)
+        cases.holds("a box onto a disk that may not be written to", run(*words), (4, "", f"roombox: device\nroombox: {outbox}/.roombox-temporary: it may not be written to\n"))
+    finally:
+        subprocess.run(["umount", str(outbox)], check=False)
+
+
 def main():
     program, cases = str(Path(sys.argv[1]).resolve()), Cases()
     full_standard_error(cases, program)
     as_they_come(cases, program)
     told(cases, program)
-    for part in (devices, boxes):
+    for part in (devices, boxes, files_that_fail, full_disk):
         with tempfile.TemporaryDirectory() as folder:
             part(cases, program, Path(folder))
     print(f"{cases.count} cases, {cases.failed} failed")

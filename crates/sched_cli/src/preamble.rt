@@ -359,7 +359,14 @@ pub fn preamble_in(octets: &[u8]) -> &[u8] {
 pub fn shown_name(alloc: Global, name: &str) -> Result<Vec<u8>, AllocError>
     ensures { IfOk result (λ text. text.items ≡ cut_shown name.now) }
 {
+    shown_octets(alloc, name.as_bytes())
+}
+
+/// The same of a name that may be no text.
+pub fn shown_octets(alloc: Global, name: &[u8]) -> Result<Vec<u8>, AllocError>
+    ensures { IfOk result (λ text. text.items ≡ cut_shown name.now) }
+{
     let mut text = Vec::new(alloc);
-    append_cut(&mut text, name.as_bytes())?;
+    append_cut(&mut text, name)?;
     Ok(text)
 }
