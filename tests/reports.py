@@ -124,6 +124,14 @@ def boxes(cases, program, parent):
     config.write_text(f"room {R1}\nrom mailto:r2@example.com\n")
     unknown = "it doesn't begin with `now `, `room `, `zone ` or `organiser `"
     cases.holds("a configuration with a word that is none", reported(), (3, "", f"roombox: refused 90\nroombox: line 2: {unknown}: rom mailto:r2@example.com\n"))
+    config.write_text(f"room {R1}\n\nroom mailto:r2@example.com\n")
+    cases.holds("a line behind the empty line of a configuration", reported(), (3, "", "roombox: refused 90\nroombox: line 2: it is empty, and more stands behind it\n"))
+    config.write_text(f"\r\nroom {R1}\r\n", newline="")
+    cases.holds("a configuration that begins with an empty line", reported(), (3, "", "roombox: refused 90\nroombox: line 1: it is empty, and more stands behind it\n"))
+    config.write_text(f"room {R1}\n\n\n")
+    cases.holds("two empty lines at the end of a configuration", reported(), (3, "", "roombox: refused 90\nroombox: line 2: it is empty, and more stands behind it\n"))
+    config.write_text(f"room {R1}\n\n")
+    cases.holds("an empty line at the end of a configuration", reported()[0], 0)
     config.write_text(f"room {R1}\n")
     absent = parent / "absent"
     cases.holds("no inbox", run(program, "box", str(config), str(absent), str(outbox)), (4, "", f"roombox: device\nroombox: {absent}: it isn't there\n"))
