@@ -138,6 +138,26 @@ def boxes(cases, program, parent):
     cases.holds("no outbox", run(program, "box", str(config), str(inbox), str(absent)), (4, "", f"roombox: device\nroombox: {absent}: it isn't there\n"))
 
 
+def left_alone(cases, program, parent):
+    """A file that ends as a message does, and is none, is told by each run with a report; a message isn't, nor is what ends otherwise."""
+    inbox, outbox, config = parent / "inbox", parent / "outbox", parent / "config"
+    for folder in (inbox, outbox):
+        folder.mkdir()
+    config.write_text(f"room {R1}\n")
+    for name in ("notes.txt", "00000012.ics", "00000013-20250102T000000Z.ics.part", "0000013-20250102T000000Z.ics", "00000014-20251302T000000Z.ics", "00000015-20250102T000000Z.ICS", "a b%.iCs"):
+        (inbox / name).write_bytes(b"")
+    (inbox / "00000016-20250102T000000Z.ics").write_bytes(changed({7: ""}).encode())
+    alone = ["0000013-20250102T000000Z.ics", "00000012.ics", "00000014-20251302T000000Z.ics", "00000015-20250102T000000Z.ICS", "a b%25.iCs"]
+    lines = "".join(f"roombox: left alone: {name}\n" for name in sorted(alone))
+    refused = "roombox: 00000016-20250102T000000Z.ics object 1: refused 63, REQUEST, UID a\n"
+    for words in ([], ["--adapt"]):
+        for out in outbox.iterdir():
+            out.unlink()
+        said = [run(program, "box", "--report", *words, str(config), str(inbox), str(outbox)) for _ in range(2)]
+        cases.holds(f"what is left alone {words}", said, [(0, "", lines + refused), (0, "", lines)])
+    cases.holds("it isn't told without a report", run(program, "box", str(config), str(inbox), str(outbox)), (0, "", ""))
+
+
 def files_that_fail(cases, program, parent):
     """Behind `roombox: device` the file that failed, and why."""
     number = 0
@@ -237,7 +257,7 @@ def main():
     full_standard_error(cases, program)
     as_they_come(cases, program)
     told(cases, program)
-    for part in (devices, boxes, files_that_fail, full_disk):
+    for part in (devices, boxes, left_alone, files_that_fail, full_disk):
         with tempfile.TemporaryDirectory() as folder:
             part(cases, program, Path(folder))
     print(f"{cases.count} cases, {cases.failed} failed")
