@@ -139,10 +139,18 @@ def units(cases, parent):
         cases.holds(f"{name} has no rights that it doesn't need", (status, shown.splitlines()[-1].split()[-2]), (0, "SAFE"))
 
 
+def reports(cases, parent):
+    """The units tell what came to nothing."""
+    for name in ("roombox-box@.service", "roombox-mail@.service"):
+        text = (ROOT / "examples" / "systemd" / name).read_text()
+        runs = [line for line in text.splitlines() if line.startswith("ExecStart=") and " box " in line]
+        cases.holds(f"{name} runs box once, with a report", [" --report " in line for line in runs], [True])
+
+
 def main():
     cases = Cases()
     with tempfile.TemporaryDirectory() as parent:
-        for part in (by_make, by_package, version_is_one, units):
+        for part in (by_make, by_package, version_is_one, units, reports):
             part(cases, parent)
     print(f"{cases.count} cases, {cases.failed} failed")
     return 1 if cases.failed else 0

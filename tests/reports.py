@@ -124,10 +124,132 @@ def boxes(cases, program, parent):
     config.write_text(f"room {R1}\nrom mailto:r2@example.com\n")
     unknown = "it doesn't begin with `now `, `room `, `zone ` or `organiser `"
     cases.holds("a configuration with a word that is none", reported(), (3, "", f"roombox: refused 90\nroombox: line 2: {unknown}: rom mailto:r2@example.com\n"))
+    config.write_text(f"room {R1}\n\nroom mailto:r2@example.com\n")
+    cases.holds("a line behind the empty line of a configuration", reported(), (3, "", "roombox: refused 90\nroombox: line 2: it is empty, and more stands behind it\n"))
+    config.write_text(f"\r\nroom {R1}\r\n", newline="")
+    cases.holds("a configuration that begins with an empty line", reported(), (3, "", "roombox: refused 90\nroombox: line 1: it is empty, and more stands behind it\n"))
+    config.write_text(f"room {R1}\n\n\n")
+    cases.holds("two empty lines at the end of a configuration", reported(), (3, "", "roombox: refused 90\nroombox: line 2: it is empty, and more stands behind it\n"))
+    config.write_text(f"room {R1}\n\n")
+    cases.holds("an empty line at the end of a configuration", reported()[0], 0)
     config.write_text(f"room {R1}\n")
     absent = parent / "absent"
     cases.holds("no inbox", run(program, "box", str(config), str(absent), str(outbox)), (4, "", f"roombox: device\nroombox: {absent}: it isn't there\n"))
     cases.holds("no outbox", run(program, "box", str(config), str(inbox), str(absent)), (4, "", f"roombox: device\nroombox: {absent}: it isn't there\n"))
+
+
+def left_alone(cases, program, parent):
+    """A file that ends as a message does, and is none, is told by each run with a report; a message isn't, nor is what ends otherwise."""
+    inbox, outbox, config = parent / "inbox", parent / "outbox", parent / "config"
+    for folder in (inbox, outbox):
+        folder.mkdir()
+    config.write_text(f"room {R1}\n")
+    for name in ("notes.txt", "00000012.ics", "00000013-20250102T000000Z.ics.part", "0000013-20250102T000000Z.ics", "00000014-20251302T000000Z.ics", "00000015-20250102T000000Z.ICS", "a b%.iCs"):
+        (inbox / name).write_bytes(b"")
+    (inbox / "00000016-20250102T000000Z.ics").write_bytes(changed({7: ""}).encode())
+    alone = ["0000013-20250102T000000Z.ics", "00000012.ics", "00000014-20251302T000000Z.ics", "00000015-20250102T000000Z.ICS", "a b%25.iCs"]
+    lines = "".join(f"roombox: left alone: {name}\n" for name in sorted(alone))
+    refused = "roombox: 00000016-20250102T000000Z.ics object 1: refused 63, REQUEST, UID a\n"
+    for words in ([], ["--adapt"]):
+        for out in outbox.iterdir():
+            out.unlink()
+        said = [run(program, "box", "--report", *words, str(config), str(inbox), str(outbox)) for _ in range(2)]
+        cases.holds(f"what is left alone {words}", said, [(0, "", lines + refused), (0, "", lines)])
+    cases.holds("it isn't told without a report", run(program, "box", str(config), str(inbox), str(outbox)), (0, "", ""))
+
+
+def files_that_fail(cases, program, parent):
+    """Behind `roombox: device` the file that failed, and why."""
+    number = 0
+
+    def box(prepare, *words, **how):
+        nonlocal number
+        number += 1
+        folder = parent / str(number)
+        folder.mkdir()
+        inbox, outbox, config = folder / "inbox", folder / "outbox", folder / "config"
+        for made in (inbox, outbox):
+            made.mkdir()
+        config.write_text(f"room {R1}\n")
+        (inbox / "00000001-20250102T000000Z.ics").write_bytes(changed({}).encode())
+        at, why = prepare(inbox, outbox)
+        ended = subprocess.run([program, "box", *words, str(config), str(inbox), str(outbox)], capture_output=True, timeout=300, check=False, **how)
+        lines = f"roombox: device\nroombox: {at}: {why}\n"
+        return (ended.returncode, ended.stdout.decode(), ended.stderr.decode()), (4, "", lines)
+
+    second = "00000002-20250102T000000Z.ics"
+
+    def folder_as_message(inbox, outbox):
+        (inbox / second).mkdir()
+        return inbox / second, "it is a folder"
+
+    def dangling_link(inbox, outbox):
+        (inbox / second).symlink_to("nothing")
+        return inbox / second, "it isn't there"
+
+    def circle_of_links(inbox, outbox):
+        (inbox / second).symlink_to(second)
+        return inbox / second, "its links lead in a circle"
+
+    def long_message(inbox, outbox):
+        with open(inbox / second, "wb") as long:
+            long.truncate(1_073_741_825)
+        return inbox / second, "it is too long"
+
+    def temporary_is_folder(inbox, outbox):
+        (outbox / ".roombox-temporary").mkdir()
+        return outbox / ".roombox-temporary", "it is a folder"
+
+    def answer_without_text(inbox, outbox):
+        with open(os.fsencode(outbox) + b"/\xffa.out", "wb"):
+            pass
+        return f"{outbox}/%FFa.out", "its name isn't UTF-8, or is too long"
+
+    def message_without_text(inbox, outbox):
+        with open(os.fsencode(inbox) + b"/\xffa.ics", "wb"):
+            pass
+        return f"{inbox}/%FFa.ics", "its name isn't UTF-8, or is too long"
+
+    def unreadable(inbox, outbox):
+        (inbox / second).write_bytes(b"")
+        os.chmod(inbox / second, 0o600)
+        os.chown(outbox, NOBODY, NOBODY)
+        return inbox / second, "permission is denied"
+
+    def unwritable(inbox, outbox):
+        return outbox / ".roombox-temporary", "permission is denied"
+
+    for prepare in (folder_as_message, dangling_link, circle_of_links, temporary_is_folder, answer_without_text, message_without_text):
+        for words in ([], ["--report"]):
+            cases.holds(f"a box and {prepare.__name__} {words}", *box(prepare, *words))
+    cases.holds("a box and a message that is too long", *box(long_message))
+    for prepare in (folder_as_message, dangling_link):
+        cases.holds(f"a box behind the door and {prepare.__name__}", *box(prepare, "--adapt"))
+    if os.geteuid() == 0:
+        os.chmod(parent, 0o755)
+        for prepare in (unreadable, unwritable):
+            cases.holds(f"a box and {prepare.__name__}", *box(prepare, user=NOBODY))
+
+
+def full_disk(cases, program, parent):
+    """The file that no space is left for; left out where nothing can be mounted."""
+    outbox = parent / "outbox"
+    outbox.mkdir()
+    if subprocess.run(["mount", "-t", "tmpfs", "-o", "size=4k", "none", str(outbox)], capture_output=True, check=False).returncode != 0:
+        print("left out, as nothing can be mounted: a disk that is full")
+        return
+    try:
+        (parent / "inbox").mkdir()
+        (parent / "config").write_text(f"room {R1}\n")
+        (outbox / "filling").write_bytes(b"x" * 4096)
+        (parent / "inbox" / "00000001-20250102T000000Z.ics").write_bytes(changed({}).encode())
+        words = [program, "box", str(parent / "config"), str(parent / "inbox"), str(outbox)]
+        said = run(*words)
+        cases.holds("a box onto a full disk", said, (4, "", f"roombox: device\nroombox: {outbox}/.roombox-temporary: no space is left\n"))
+        subprocess.run(["mount", "-o", "remount,ro", str(outbox)], check=True)
+        cases.holds("a box onto a disk that may not be written to", run(*words), (4, "", f"roombox: device\nroombox: {outbox}/.roombox-temporary: it may not be written to\n"))
+    finally:
+        subprocess.run(["umount", str(outbox)], check=False)
 
 
 def main():
@@ -135,7 +257,7 @@ def main():
     full_standard_error(cases, program)
     as_they_come(cases, program)
     told(cases, program)
-    for part in (devices, boxes):
+    for part in (devices, boxes, left_alone, files_that_fail, full_disk):
         with tempfile.TemporaryDirectory() as folder:
             part(cases, program, Path(folder))
     print(f"{cases.count} cases, {cases.failed} failed")

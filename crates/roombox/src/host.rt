@@ -19,7 +19,7 @@ use sched_cli::{
     Log, Tally, run_expand, run_explain, run_explain_object, run_folders, run_folders_report,
     run_meetings, run_serve_report,
 };
-use sched_devices::{DiskFolder, Folder};
+use sched_devices::{DiskFolder, Explained, Folder};
 use std::alloc::Global;
 use std::fs::File;
 use std::io::{self, ErrorKind, IsTerminal, Read, Stderr, Write};
@@ -538,7 +538,7 @@ pub(crate) struct Folders<'a> {
 }
 
 /// Answers the files of an inbox, and shows how far that is where someone watches.
-pub(crate) fn answer_files<R: Runtime + AllocGlobal, I: Folder + Drop>(
+pub(crate) fn answer_files<R: Runtime + AllocGlobal, I: Folder + Explained + Drop>(
     rt: &R,
     alloc: Global,
     folders: Folders<'_>,
@@ -552,7 +552,7 @@ pub(crate) fn answer_files<R: Runtime + AllocGlobal, I: Folder + Drop>(
 }
 
 /// Answers them, and says what came to nothing where that is wanted.
-fn answer_inbox<R: Runtime + AllocGlobal, I: Folder>(
+fn answer_inbox<R: Runtime + AllocGlobal, I: Folder + Explained>(
     rt: &R,
     alloc: Global,
     folders: Folders<'_>,
@@ -573,11 +573,11 @@ fn answer_inbox<R: Runtime + AllocGlobal, I: Folder>(
     } else {
         run_folders(alloc, folders.config, inbox, &mut outbox, &mut errors)
     };
-    if inbox.failures() > 0 {
-        say_folder(rt, alloc, folders.inbox);
+    if let Some(failure) = inbox.last_failure() {
+        say_folder(rt, alloc, folders.inbox, failure);
     }
-    if outbox.failures() > 0 {
-        say_folder(rt, alloc, folders.outbox);
+    if let Some(failure) = outbox.last_failure() {
+        say_folder(rt, alloc, folders.outbox, failure);
     }
     say_configuration(rt, alloc, status, folders.config)
 }

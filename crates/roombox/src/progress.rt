@@ -3,7 +3,7 @@
 ghost use Rattle.std.specs.Prelude.{◌≡◌};
 
 use sched_box::file_names::MessageName;
-use sched_devices::{Folder, FolderFault};
+use sched_devices::{Explained, Failure, Folder, FolderFault};
 use std::alloc::{AllocError, Global};
 
 /// After so many files it is said how far it is.
@@ -93,6 +93,14 @@ impl<R: Eprint, F: Folder + Drop> Folder for Progress<'_, R, F> {
     ghost counts_now = { λ shown moment left earlier leaves. F.counts_now shown.inbox moment left earlier leaves };
 
     ghost only_now = { λ shown left since. F.only_now shown.inbox left since };
+}
+
+impl<R: Eprint, F: Folder + Explained + Drop> Explained for Progress<'_, R, F> {
+    ghost reason = { λ shown. F.reason shown.inbox };
+
+    fn last_failure(&self) -> Option<&Failure> {
+        self.inbox.last_failure()
+    }
 }
 
 /// How many of the names are those of messages.

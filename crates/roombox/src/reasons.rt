@@ -4,12 +4,16 @@ use crate::host::ErrorPrinter;
 use ical_values::Address;
 use sched_box::config::LONGEST;
 use sched_box::{Config, DeviceWriter, Output};
-use sched_cli::preamble::{Front, preamble_fault, preamble_in, shown_name};
+use sched_cli::preamble::{Front, preamble_fault, preamble_in, shown_name, shown_octets};
 use sched_cli::status::{DEVICE, REFUSED};
+use sched_devices::Failure;
 use std::alloc::{AllocError, Global};
-use std::fs;
 use std::io::{self, ErrorKind, Read, Write};
 use std::rt::Runtime;
+use std::str;
+
+/// The most octets of the names of a folder that are looked through for one that isn't UTF-8.
+const NAMES: u64 = 67_108_864;
 
 /// A reader that remembers its first octets, as many as a preamble may have and one more, and why it failed.
 #[derive(Drop)]
@@ -142,6 +146,10 @@ fn words_of(kind: ErrorKind) -> &'static str {
         ErrorKind::NotADirectory => "it isn't in a folder, or is none",
         ErrorKind::StorageFull | ErrorKind::QuotaExceeded => "no space is left",
         ErrorKind::ReadOnlyFilesystem => "it may not be written to",
+        ErrorKind::AlreadyExists => "it is there already",
+        ErrorKind::FileTooLarge => "it is too long",
+        ErrorKind::FilesystemLoop => "its links lead in a circle",
+        ErrorKind::InvalidFilename => "its name isn't UTF-8, or is too long",
         ErrorKind::BrokenPipe => "nobody reads it any more",
         _ => "it can't be used",
     }
@@ -245,10 +253,68 @@ fn unnamed_line(alloc: Global, config: &Config, wanted: Wanted<'_>) -> Result<Ve
     Ok(line)
 }
 
-/// Says why a folder of this path can't be listed, if it can't. Gives the status.
-pub(crate) fn say_folder<R: Runtime + AllocGlobal>(rt: &R, alloc: Global, path: &str) {
-    match fs::read_dir(rt, path) {
-        Ok(_) => say_device(rt, alloc, path, ErrorKind::Other),
-        Err(error) => say_device(rt, alloc, path, error.kind()),
+/// Says why a folder of this path failed last, and of which file.
+pub(crate) fn say_folder<R: Runtime + AllocGlobal>(
+    rt: &R,
+    alloc: Global,
+    path: &str,
+    failure: &Failure,
+) {
+    // Where memory for the line is refused it isn't said; where standard error fails, nobody is left to be told.
+    if let Ok(line) = folder_line(rt, alloc, path, failure) {
+        let _ = DeviceWriter::new(ErrorPrinter { to: rt }).put(line.as_slice());
     }
+}
+
+/// `roombox: inbox/00000001-20250102T000000Z.ics: permission is denied`, as a line; without the file where the folder itself failed.
+fn folder_line<R: Runtime + AllocGlobal>(
+    rt: &R,
+    alloc: Global,
+    path: &str,
+    failure: &Failure,
+) -> Result<Vec<u8>, AllocError> {
+    let mut line = Vec::new(alloc);
+    line.extend_from_slice(b"roombox: ")?;
+    line.extend_from_slice(&shown_name(alloc, path)?)?;
+    if let Some(name) = &failure.name {
+        append_file(alloc, &mut line, name.as_bytes())?;
+    } else if failure.kind == ErrorKind::InvalidFilename {
+        append_file(alloc, &mut line, &unreadable_name(rt, alloc, path)?)?;
+    }
+    line.extend_from_slice(b": ")?;
+    line.extend_from_slice(words_of(failure.kind).as_bytes())?;
+    line.extend_from_slice(b"\n")?;
+    Ok(line)
+}
+
+/// A slash and the name of a file, as it is shown; nothing where there is no name.
+fn append_file(alloc: Global, line: &mut Vec<u8>, name: &[u8]) -> Result<(), AllocError> {
+    if name.is_empty() {
+        return Ok(());
+    }
+    line.extend_from_slice(b"/")?;
+    line.extend_from_slice(&shown_octets(alloc, name)?)
+}
+
+/// A name in the folder of this path that isn't UTF-8; nothing where none is found.
+fn unreadable_name<R: Runtime + AllocGlobal>(
+    rt: &R,
+    alloc: Global,
+    path: &str,
+) -> Result<Vec<u8>, AllocError> {
+    let mut names = Vec::new(alloc);
+    // With the slash a link to a folder is followed.
+    let Ok(folder) = rt.open_dir(format!(in alloc; "{path}/")?.as_str()) else {
+        return Ok(names);
+    };
+    if folder.take(NAMES).read_to_end(&mut names).is_err() {
+        return Ok(Vec::new(alloc));
+    }
+    let mut found = Vec::new(alloc);
+    for name in names.split(|octet| *octet == 0) {
+        if found.is_empty() && str::from_utf8(name).is_err() {
+            found.extend_from_slice(name)?;
+        }
+    }
+    Ok(found)
 }

@@ -1,5 +1,5 @@
 -- What the names of files say.
-use Rattle.std.proofs.Common.{◌≡◌, ◌≢◌, ◌∙◌, ℕ, ℤ, suc, ◌+◌, ◌-◌, ◌<◌, ◌≤◌, true, List, [], ◌∷◌, ◌++◌, length, get_or, take, drop, codes, refl, sym, ap, subst, arith, length-append, append_assoc, Option, Some, None, MatchOption, Result, Ok, Err, IfOk, OnErr}
+use Rattle.std.proofs.Common.{◌≡◌, ◌≢◌, ◌↔◌, ◌∙◌, ◌&&◌, not, ℕ, ℤ, Bool, suc, ◌+◌, ◌-◌, ◌<◌, ◌≤◌, true, false, IsTrue, true≢false, List, [], ◌∷◌, ◌++◌, length, get_or, take, drop, codes, refl, sym, ap, subst, arith, length-append, append_assoc, Option, Some, None, MatchOption, Result, Ok, Err, IfOk, OnErr}
 use Rattle.std.specs.Result.{result_ok}
 use Rattle.ical_lines.specs.declared.fault.Refusal.{Refusal}
 use Rattle.std.proofs.Math.Seq.{take-append_seam, get_or-append_seam}
@@ -12,8 +12,8 @@ use Rattle.std.specs.Str.Parse.{AllDigits}
 use Rattle.profile.specs.streams.Folders.{IsInboxName}
 use Rattle.profile.specs.text.Values.{SpellsStamp}
 use denote.Ref.{Bor}
-use Rattle.std.specs.Option.{unwrap_or}
-use Rattle.sched_box.specs.FileNames.{IsCut, IsNamed, IsNoName, name_stem}
+use Rattle.std.specs.Option.{is_some, unwrap_or}
+use Rattle.sched_box.specs.FileNames.{IsCut, IsLeftAlone, IsNamed, IsNoName, name_end, name_stem}
 
 -- ---- digits
 
@@ -130,3 +130,15 @@ named name cut number stamp moment ends split lacks eight decimal spells one =
 pub cut_or : (name stem : List ℕ) (cut : Option (Bor (List ℕ))) (other : Bor (List ℕ)) → IsCut name cut → name ≡ stem ++ codes ".ics" → (unwrap_or cut other).now ≡ stem
 cut_or name stem (Some front) other is e = stem_is name front.now is ∙ sym (stem_is name stem e)
 cut_or name stem None other is e = absurd (is stem e)
+
+-- ---- what is left alone
+
+pub none_is_no_name : (found : Option ℤ) (name : List ℕ) (test : Bool) → MatchOption found (IsNoName name) (IsNamed name) → is_some found ≡ not test → IsTrue test ↔ IsNoName name
+none_is_no_name None name true lacks is = (λ e. lacks, λ n. refl)
+none_is_no_name None name false lacks is = absurd (true≢false (sym is))
+none_is_no_name (Some moment) name true named is = absurd (true≢false is)
+none_is_no_name (Some moment) name false named is = (λ e. absurd (true≢false (sym e)), λ n. absurd (n _ moment named.is))
+
+pub both_alone : (a b : Bool) (name : List ℕ) → (IsTrue a ↔ (name_end name ≡ codes ".ics")) → (IsTrue b ↔ IsNoName name) → IsTrue (a && b) ↔ IsLeftAlone name
+both_alone true b name ends none = (λ e. record { ends = ends.0 refl; no_message = none.0 e }, λ alone. none.1 alone.no_message)
+both_alone false b name ends none = (λ e. absurd (true≢false (sym e)), λ alone. absurd (true≢false (sym (ends.1 alone.ends))))

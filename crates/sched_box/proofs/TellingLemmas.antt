@@ -1,5 +1,6 @@
 -- Who is told of one file after another.
-use Rattle.std.proofs.Common.{◌≡◌, ◌↔◌, ◌∙◌, ◌∷◌, ◌++◌, ℕ, ℤ, Bool, true, false, not, List, [], map, Option, Some, IfOk, IsTrue, OnOk, Result, Ok, Err, Vec, Global, string_bytes, refl, sym, ap, subst, true≢false}
+use Rattle.std.proofs.Common.{◌≡◌, ◌↔◌, ◌∙◌, ◌∷◌, ◌++◌, ℕ, ℤ, Bool, true, false, not, List, [], map, Option, Some, IfOk, IsTrue, OnOk, Result, Ok, Err, Vec, Global, String, string_bytes, refl, sym, ap, subst, true≢false}
+use Rattle.std.proofs.lemmas.List.{map-append}
 use Rattle.std.specs.Option.{unwrap_or}
 use Rattle.profile.specs.streams.Folders.{AreMessageFiles, AreNames, Image}
 use Rattle.profile.specs.streams.Reports.{AllAnswersAs, Fate}
@@ -7,7 +8,7 @@ use Rattle.profile.specs.streams.Streams.{Box, Config, new_box}
 use Rattle.sched_box.specs.Books.{AreBooksOf}
 use Rattle.sched_box.specs.Running.{file_of}
 use Rattle.sched_box.specs.Serving.{TellsAll}
-use Rattle.sched_box.specs.Telling.{AllFilesTold, FilesTold, IsNew, TellsInbox, TellsObjects, TellsOctets}
+use Rattle.sched_box.specs.Telling.{AllFilesTold, AllPassed, FilesTold, IsNew, IsPassed, TellsInbox, TellsObjects, TellsOctets}
 use Rattle.sched_box.specs.declared.books.Books.{Books}
 use Rattle.sched_box.specs.declared.file_names.MessageName.{MessageName}
 use Rattle.sched_box.specs.declared.folders.BoxFault.{BoxFault}
@@ -82,3 +83,21 @@ inbox_told Begins Tells old new inbox image outbox now hosts names theirs olds n
     let (after, hosted, told) = subst P same h (new_box hosts) have in
     let Q : Image → Type 0 = λ i. AreNames i theirs in
     record { names = names; theirs = theirs; after = after; messages = messages; there = subst Q held there; told = told }
+
+-- ---- what is left alone
+
+passed_behind : {Told : Type 0} (Passes : Told → List ℕ → Told → Type 0) (old so new : Told) (names : List (List ℕ)) (name : List ℕ)
+    → AllPassed Passes old names so → IsPassed Passes so name new → AllPassed Passes old (names ++ name ∷ []) new
+passed_behind {Told} Passes old so new [] name same one =
+    let P : Told → Type 0 = λ z. IsPassed Passes z name new in
+    (new, subst P same one, refl)
+passed_behind Passes old so new (n ∷ ns) name (mid, first, more) one = (mid, first, passed_behind Passes mid so new ns name more one)
+
+-- one name more
+pub name_passed : {Told A : Type 0} (Passes : Told → List ℕ → Told → Type 0) (old so new : Told) (all names : List (String A)) (name : String A) (octets : List ℕ) → all ≡ names ++ name ∷ [] → octets ≡ string_bytes name
+    → AllPassed Passes old (map string_bytes names) so → IsPassed Passes so octets new → AllPassed Passes old (map string_bytes all) new
+name_passed {Told} Passes old so new all names name octets all_is is sofar one =
+    let P : List (List ℕ) → Type 0 = λ l. AllPassed Passes old l new in
+    let Q : List ℕ → Type 0 = λ o. IsPassed Passes so o new in
+    let split : map string_bytes all ≡ map string_bytes names ++ string_bytes name ∷ [] = ap (map string_bytes) all_is ∙ map-append string_bytes names (name ∷ []) in
+    subst P (sym split) (passed_behind Passes old so new (map string_bytes names) (string_bytes name) sofar (subst Q is one))

@@ -1,5 +1,6 @@
 -- Which names of files are messages'.
-use Rattle.std.specs.Prelude.{◌≡◌, ◌-◌, ◌++◌, ℕ, ℤ, List, length, take, codes, Option, MatchOption}
+use Rattle.std.specs.Prelude.{◌≡◌, ◌-◌, ◌++◌, ℕ, ℤ, List, length, take, drop, map, codes, Option, MatchOption}
+use Rattle.std.specs.Char.{to_ascii_lowercase}
 use denote.Ref.{Bor}
 use Rattle.profile.specs.streams.Folders.{IsInboxName}
 
@@ -23,3 +24,14 @@ IsCut name cut = MatchOption cut ((stem : List ℕ) → name ≡ stem ++ codes "
 -- the name of the answers to a message of this name
 abbrev pub renamed : List ℕ → List ℕ
 renamed name = name_stem name ++ codes ".out"
+
+-- ---- what is left alone
+
+-- the last four octets of a name, in lower case
+abbrev pub name_end : List ℕ → List ℕ
+name_end name = map to_ascii_lowercase (drop (length name - 4) name)
+
+-- it ends as a message's name does, in upper or lower case, and is none
+pub record IsLeftAlone (name : List ℕ) : Type 0 where
+  pub ends : name_end name ≡ codes ".ics"
+  pub no_message : IsNoName name

@@ -1,11 +1,12 @@
 -- Who is told of the files of an inbox, and of the objects in each, while they are answered.
-use Rattle.std.specs.Prelude.{◌≡◌, ◌↔◌, ◌∷◌, ℕ, ℤ, Bool, List, [], map, Contains, IsTrue, string_bytes}
+use Rattle.std.specs.Prelude.{◌≡◌, ◌↔◌, ◌⊎◌, ◌∷◌, ℕ, ℤ, Bool, List, [], map, Contains, IsTrue, string_bytes}
 use Rattle.profile.specs.streams.Folders.{AreMessageFiles, AreNames, Image}
 use Rattle.profile.specs.streams.Reports.{AllAnswersAs, AllTold, Fate}
 use Rattle.profile.specs.streams.Streams.{AreObjects, Box, Config, new_box}
 use Rattle.sched_box.specs.Books.{AreBooksOf}
+use Rattle.sched_box.specs.FileNames.{IsLeftAlone}
 use Rattle.sched_box.specs.Objects.{kept_of}
-use Rattle.sched_box.specs.Running.{answers_name, file_of}
+use Rattle.sched_box.specs.Running.{AreRising, answers_name, file_of}
 use Rattle.sched_box.specs.declared.books.Books.{Books}
 use Rattle.sched_box.specs.declared.file_names.MessageName.{MessageName}
 
@@ -48,3 +49,26 @@ pub record TellsInbox {Told : Type 0} (Begins : Told → List ℕ → Bool → T
   pub messages : AreMessageFiles inbox (map (file_of inbox) names)
   pub there : AreNames outbox theirs
   pub told : AllFilesTold Begins Tells inbox theirs old names (new_box hosts) after new
+
+-- ---- what is left alone
+
+-- it is left alone, and was told, by one step; or it isn't, and nothing was
+abbrev pub IsPassed : {Told : Type 0} → (Told → List ℕ → Told → Type 0) → Told → List ℕ → Told → Type 0
+IsPassed Passes old name new = (IsLeftAlone name × Passes old name new) ⊎ ((IsLeftAlone name → ⊥) × (new ≡ old))
+
+-- each of these names, in turn
+abbrev pub AllPassed : {Told : Type 0} → (Told → List ℕ → Told → Type 0) → Told → List (List ℕ) → Told → Type 0
+AllPassed Passes old [] new = new ≡ old
+AllPassed {Told} Passes old (name ∷ names) new = (mid : Told) × IsPassed Passes old name mid × AllPassed Passes mid names new
+
+-- all names of an inbox, each once, in the order of their octets
+pub record PassesOver {Told : Type 0} (Passes : Told → List ℕ → Told → Type 0) (inbox : Image) (old new : Told) : Type 0 where
+  pub names : List (List ℕ)
+  pub are : AreNames inbox names
+  pub rising : AreRising names
+  pub passed : AllPassed Passes old names new
+
+-- first of what is left alone, and then of all messages
+abbrev pub TellsFolder : {Told : Type 0} → (Told → List ℕ → Told → Type 0) → (Told → List ℕ → Bool → Told → Type 0) → (Told → ℕ → List ℕ → Fate → Told → Type 0) → Told → Told → Image → Image → Config → Type 0
+TellsFolder {Told} Passes Begins Tells old new inbox outbox hosts =
+    (mid : Told) × PassesOver Passes inbox old mid × TellsInbox Begins Tells mid new inbox outbox hosts

@@ -1,11 +1,11 @@
 //! The names of a box's files: `dddddddd-STAMP.ics`, eight digits and the moment at which it is answered, for a message in the inbox, and the same
 //! with `.out` for its answers in the outbox. These names are roombox's own.
 
-ghost use Rattle.std.specs.Prelude.{◌≡◌, ◌↔◌, ◌++◌, codes, length, string_bytes, IfOk, IsTrue, MatchOption};
+ghost use Rattle.std.specs.Prelude.{◌≡◌, ◌↔◌, ◌++◌, ◌&&◌, codes, length, string_bytes, IfOk, IsTrue, MatchOption};
 ghost use Rattle.std.specs.List.{list_all};
 ghost use Rattle.std.specs.Char.{is_ascii_digit};
 ghost use Rattle.std.specs.Str.Parse.{AllDigits};
-ghost use Rattle.sched_box.specs.FileNames.{IsCut, IsNamed, IsNoName, name_stem, renamed};
+ghost use Rattle.sched_box.specs.FileNames.{IsCut, IsLeftAlone, IsNamed, IsNoName, name_end, name_stem, renamed};
 
 use ical_values::Stamp;
 use ical_values::stamp::one_stamp;
@@ -52,6 +52,37 @@ impl MessageName {
         let stem = cut_end(self.name.as_str()).unwrap_or("");
         Ok(format!(in alloc; "{stem}.out")?)
     }
+}
+
+/// Whether a name ends as a message's does, in upper or lower case, and is none.
+pub(crate) fn is_left_alone(name: &str) -> bool
+    ensures { IsTrue result ↔ IsLeftAlone name.now }
+{
+    let ends = ends_as_message(name);
+    let is_none = is_no_message(name);
+    both(ends, is_none)
+}
+
+fn both(a: bool, b: bool) -> bool
+    ensures { result ≡ (a && b) }
+{
+    a && b
+}
+
+/// Whether the last four octets are `.ics`, in upper or lower case.
+fn ends_as_message(name: &str) -> bool
+    ensures { IsTrue result ↔ (name_end name.now ≡ codes ".ics") }
+{
+    let octets = name.as_bytes();
+    let end = &octets[octets.len().saturating_sub(4)..];
+    end.eq_ignore_ascii_case(b".ics")
+}
+
+/// Whether it is the name of no message.
+fn is_no_message(name: &str) -> bool
+    ensures { IsTrue result ↔ IsNoName name.now }
+{
+    moment_of(name).is_none()
 }
 
 /// The moment that a name says, if it is of the form.

@@ -7,13 +7,13 @@ ghost use Rattle.sched_devices.specs.declared.folder.FolderFault.TheVariants as 
 ghost use Rattle.sched_box.specs.Boxes.{HasRisen, IsNoDifference, Runs};
 ghost use Rattle.sched_box.specs.Config.{config_hosts};
 ghost use Rattle.sched_box.specs.Running.{AnswersMessage, AnswersOctets, AreApart, AreRising, GoesOn, IsGained, IsWhole, LeavesHeld, MayGain, RunsOver, Settles, answers_name, box_fault, file_of};
-ghost use Rattle.sched_box.specs.Telling.{FilesTold, IsNew, TellsInbox, TellsOctets};
+ghost use Rattle.sched_box.specs.Telling.{AllPassed, FilesTold, IsNew, IsPassed, PassesOver, TellsFolder, TellsOctets};
 ghost use Rattle.sched_box.specs.declared.folders.BoxFault.TheVariants.{Device, Differs, Memory};
 
 use crate::books::Books;
 use crate::config::Config;
 use crate::fault::ServeFault;
-use crate::file_names::MessageName;
+use crate::file_names::{MessageName, is_left_alone};
 use crate::journal::{Journal, Nobody};
 use crate::objects::MOST_OCTETS;
 use crate::serving::serve_objects;
@@ -120,8 +120,14 @@ fn is_among(names: &[String], name: &str) -> bool
         .is_ok()
 }
 
-/// The messages of the inbox, in the order of the octets of their names. Files of other names are left alone.
-fn message_files<I: Folder>(alloc: Global, inbox: &mut I) -> Result<Vec<MessageName>, FolderFault>
+/// The messages of the inbox, in the order of the octets of their names. Files of other names are left alone, and told where they end as
+/// messages do.
+fn message_files<I: Folder, J: Journal>(
+    alloc: Global,
+    inbox: &mut I,
+    journal: &mut J,
+) -> Result<Vec<MessageName>, FolderFault>
+    ensures passes { OnOk result (I.is_known inbox.old ≡ true → PassesOver J.passes (I.image inbox.old) journal.old journal.new) }
     ensures messages { IfOk result (λ files. I.is_known inbox.old ≡ true → AreMessageFiles (I.image inbox.old) (map (file_of (I.image inbox.old)) files.items)) }
     ensures apart { IfOk result (λ files. AreApart files.items) }
     ensures kept { IsKept I.is_known I.image I.temporary I.may_leave inbox.old inbox.new }
@@ -130,8 +136,27 @@ fn message_files<I: Folder>(alloc: Global, inbox: &mut I) -> Result<Vec<MessageN
     ensures cause { HasCause (I.failed inbox.old) (I.failed inbox.new) (IsErrOf result folder.Device) }
 {
     let names = sorted_names(alloc, inbox)?;
+    tell_left_alone(&names, journal);
     let files = messages_among(alloc, names)?;
     Ok(files)
+}
+
+/// Tells which of these names are left alone though they end as those of messages do, in their order.
+fn tell_left_alone<J: Journal>(names: &[String], journal: &mut J)
+    ensures { AllPassed J.passes journal.old (map string_bytes names.now) journal.new }
+{
+    for name in names {
+        tell_if_left_alone(name.as_str(), journal);
+    }
+}
+
+fn tell_if_left_alone<J: Journal>(name: &str, journal: &mut J)
+    ensures { IsPassed J.passes journal.old name.now journal.new }
+{
+    if !is_left_alone(name) {
+        return;
+    }
+    journal.pass_over(name);
 }
 
 /// Those of these names that are messages', in their order.
@@ -378,7 +403,8 @@ pub fn run_box<I: Folder, O: Folder>(
     run_box_telling(alloc, inbox, outbox, config, &mut Nobody)
 }
 
-/// Runs a box as `run_box` does, and tells of each object of each file what became of it, before the answers to the file are published.
+/// Runs a box as `run_box` does, and tells which files are left alone though they end as messages do, and then of each object of each file what
+/// became of it, before the answers to the file are published.
 pub fn run_box_telling<I: Folder, O: Folder, J: Journal>(
     alloc: Global,
     inbox: &mut I,
@@ -394,10 +420,10 @@ pub fn run_box_telling<I: Folder, O: Folder, J: Journal>(
         → Runs (I.image inbox.old) (config_hosts config.now) (record { start = O.image outbox.old; now = O.image outbox.new; first = O.moment outbox.old; last = O.moment outbox.new })
         (O.may_leave outbox.old) (O.may_leave outbox.new) (O.left_since outbox.new) result }
     ensures tells { I.is_known inbox.old ≡ true → O.is_known outbox.old ≡ true
-        → OnOk result (TellsInbox J.begins J.tells journal.old journal.new (I.image inbox.old) (O.image outbox.old) (config_hosts config.now)) }
+        → OnOk result (TellsFolder J.passes J.begins J.tells journal.old journal.new (I.image inbox.old) (O.image outbox.old) (config_hosts config.now)) }
 {
     sync_names(outbox)?;
-    let files = message_files(alloc, inbox)?;
+    let files = message_files(alloc, inbox, journal)?;
     let theirs = sorted_names(alloc, outbox)?;
     let mut books = Books::new(alloc, config)?;
     answer_all(alloc, inbox, outbox, &mut books, &files, &theirs, journal)

@@ -37,14 +37,21 @@ impl Fate {
     }
 }
 
-/// One who is told of each object what became of it, after its answers are written. A call can't fail: who keeps what it is told says later
+/// One who is told of each object what became of it, after its answers are written, and which files of an inbox are left alone. A call can't fail: who keeps what it is told says later
 /// whether that went well.
 pub trait Journal {
-    // One call leads from the value before to the value after: of the file of this name it is told whether it is new,
+    // One call leads from the value before to the value after: of the file of this name it is told that it is left alone,
+    ghost passes: { Self → List ℕ → Self → Type 0 };
+
+    // or whether it is new,
     ghost begins: { Self → List ℕ → Bool → Self → Type 0 };
 
     // or of the object of this number, which is these octets, what became of it.
     ghost tells: { Self → ℕ → List ℕ → SaidFate → Self → Type 0 };
+
+    /// The file of this name is left alone: it ends as a message's does, in upper or lower case, and is none.
+    fn pass_over(&mut self, name: &str)
+        ensures { Self.passes self.old name.now self.new };
 
     /// The objects of the file of this name come next, counted from 1: those of one that wasn't answered before, or of one that was.
     fn begin(&mut self, name: &str, is_new: bool)
@@ -60,9 +67,13 @@ pub trait Journal {
 pub struct Nobody;
 
 impl Journal for Nobody {
+    ghost passes = { λ _ _ _. Unit {0} };
+
     ghost begins = { λ _ _ _ _. Unit {0} };
 
     ghost tells = { λ _ _ _ _ _. Unit {0} };
+
+    fn pass_over(&mut self, _name: &str) {}
 
     fn begin(&mut self, _name: &str, _is_new: bool) {}
 

@@ -83,6 +83,20 @@ LogBegins old name is_new new =
     (new.written ≡ old.written) × (new.has_failed ≡ old.has_failed) × (new.is_quiet ≡ not is_new)
     × (((new.fault ≡ old.fault) × (new.file ≡ shown name ++ codes " ")) ⊎ (new.fault ≡ first_fault old.fault Memory))
 
+-- a line that is due wasn't written whole: the writer has failed, or memory was refused. That is kept, if it is the first
+abbrev pub KeepsFault : Logged → Logged → Type 0
+KeepsFault old new = (fault : WriteFault) × (new.fault ≡ first_fault old.fault fault) × (fault ≡ Failed → new.has_failed ≡ true)
+
+-- the line of a file that is left alone
+abbrev pub alone_line : List ℕ → List ℕ
+alone_line name = codes "roombox: left alone: " ++ (shown name ++ codes "\n")
+
+-- it was written whole; or it wasn't, and that is kept
+abbrev pub LogPasses : Logged → List ℕ → Logged → Type 0
+LogPasses old name new =
+    (new.file ≡ old.file) × (new.is_quiet ≡ old.is_quiet)
+    × (((new.fault ≡ old.fault) × Appends old.written new.written (alone_line name)) ⊎ KeepsFault old new)
+
 -- something is to be said of an object that came to nothing
 abbrev pub is_due : Bool → Fate → Bool
 is_due is_quiet fate = not is_quiet && not (is_taken fate)
@@ -91,10 +105,6 @@ is_due is_quiet fate = not is_quiet && not (is_taken fate)
 abbrev pub SaysObject : Bool → List ℕ → ℕ → Fate → Option (List ℕ) → Option (List ℕ) → Type 0
 SaysObject true file k fate old new = (line : List ℕ) × IsObjectLine file k fate line × Appends old new line
 SaysObject false file k fate old new = new ≡ old
-
--- one that is due wasn't written whole: the writer has failed, or memory was refused. That is kept, if it is the first
-abbrev pub KeepsFault : Logged → Logged → Type 0
-KeepsFault old new = (fault : WriteFault) × (new.fault ≡ first_fault old.fault fault) × (fault ≡ Failed → new.has_failed ≡ true)
 
 -- of the object of this number it is said what became of it
 abbrev pub LogTells : Logged → ℕ → Fate → Logged → Type 0

@@ -6,7 +6,7 @@ use Rattle.profile.specs.streams.Reports.{Fate}
 use Rattle.profile.specs.streams.Streams.{Config, IsConfiguration}
 use Rattle.sched_box.specs.declared.folders.BoxFault.{BoxFault}
 use Rattle.sched_box.specs.declared.folders.BoxFault.TheVariants.{Device, Differs, Memory}
-use Rattle.sched_box.specs.Telling.{TellsInbox}
+use Rattle.sched_box.specs.Telling.{TellsFolder}
 use Rattle.sched_box.specs.declared.folders.BoxReport.{BoxReport}
 use Rattle.sched_devices.specs.declared.output.WriteFault.{WriteFault}
 use Rattle.sched_cli.specs.Commands.{SaysLine, device_text, memory_text, refused_text, write_status, write_text}
@@ -76,7 +76,8 @@ EndsLogged (Some fault) before status old new lost_before lost =
     ((before ≡ 0 → ⊥) × (status ≡ before) × (new ≡ old) × (lost ≡ lost_before))
     ⊎ ((before ≡ 0) × (status ≡ write_status fault) × SaysLine (write_text fault) old new lost)
 
--- of all files of the inbox, and of the objects in each, it was told what became of them by the box of the configuration
-abbrev pub TellsBox : {Told : Type 0} → (Told → List ℕ → Bool → Told → Type 0) → (Told → ℕ → List ℕ → Fate → Told → Type 0) → Told → Told → List ℕ → Image → Image → Type 0
-TellsBox Begins Tells old new config inbox outbox =
-    (closed : Bool) × (hosts : Config) × IsConfiguration closed config hosts × TellsInbox Begins Tells old new inbox outbox hosts
+-- of all files of the inbox, and of the objects in each, it was told what became of them by the box of the configuration; first of all, which are
+-- left alone though they end as messages do
+abbrev pub TellsBox : {Told : Type 0} → (Told → List ℕ → Told → Type 0) → (Told → List ℕ → Bool → Told → Type 0) → (Told → ℕ → List ℕ → Fate → Told → Type 0) → Told → Told → List ℕ → Image → Image → Type 0
+TellsBox Passes Begins Tells old new config inbox outbox =
+    (closed : Bool) × (hosts : Config) × IsConfiguration closed config hosts × TellsFolder Passes Begins Tells old new inbox outbox hosts

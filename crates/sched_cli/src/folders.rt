@@ -5,7 +5,7 @@ ghost use Rattle.profile.specs.streams.Folders.{LosesNamesAlone};
 ghost use Rattle.sched_devices.specs.Folder.{IsKept};
 ghost use Rattle.sched_box.specs.Boxes.{HasRisen, Runs};
 ghost use Rattle.sched_devices.specs.declared.output.WriteFault.TheVariants as write;
-ghost use Rattle.sched_cli.specs.Logging.{LogBegins, LogTells};
+ghost use Rattle.sched_cli.specs.Logging.{LogBegins, LogPasses, LogTells};
 ghost use Rattle.sched_cli.specs.Running.{EndsLogged, RunsLogged, RunsNone, RunsWith, TellsBox};
 
 use crate::log::Log;
@@ -55,7 +55,7 @@ fn run_folders_telling<I: Folder, O: Folder, J: Journal, E: Output>(
         → Runs (I.image inbox.old) hosts (record { start = O.image outbox.old; now = O.image outbox.new; first = O.moment outbox.old; last = O.moment outbox.new })
         (O.may_leave outbox.old) (O.may_leave outbox.new) (O.left_since outbox.new) ended)
         (E.contents errors.old) (E.contents errors.new) (E.may_lose errors.new) }
-    ensures tells { result ≡ 0 → I.is_known inbox.old ≡ true → O.is_known outbox.old ≡ true → TellsBox J.begins J.tells journal.old journal.new config.now (I.image inbox.old) (O.image outbox.old) }
+    ensures tells { result ≡ 0 → I.is_known inbox.old ≡ true → O.is_known outbox.old ≡ true → TellsBox J.passes J.begins J.tells journal.old journal.new config.now (I.image inbox.old) (O.image outbox.old) }
 {
     let config = match Config::read(alloc, config) {
         Ok(config) => config,
@@ -67,8 +67,9 @@ fn run_folders_telling<I: Folder, O: Folder, J: Journal, E: Output>(
     }
 }
 
-/// `box --report`: answers each file as `box` does, and says of each object that came to nothing, in a file that wasn't answered before, what
-/// became of it. Gives 4 where such a line wasn't written whole, and 5 where memory for one is refused; all is answered then.
+/// `box --report`: answers each file as `box` does, and says which files are left alone though they end as messages do, and of each object
+/// that came to nothing, in a file that wasn't answered before, what became of it. Gives 4 where such a line wasn't written whole, and 5 where
+/// memory for one is refused; all is answered then.
 pub fn run_folders_report<I: Folder, O: Folder, L: Output, E: Output>(
     alloc: Global,
     config: &[u8],
@@ -89,6 +90,8 @@ pub fn run_folders_report<I: Folder, O: Folder, L: Output, E: Output>(
         (O.may_leave outbox.old) (O.may_leave outbox.new) (O.left_since outbox.new) ended)
         (E.contents errors.old) (E.contents errors.new) (E.may_lose errors.new) }
     ensures tells { result ≡ 0 → I.is_known inbox.old ≡ true → O.is_known outbox.old ≡ true → TellsBox
+        (λ old name new. LogPasses (record { file = old.file.items; is_quiet = old.is_quiet; fault = old.fault; written = L.contents old.to; has_failed = L.has_failed old.to }) name
+        (record { file = new.file.items; is_quiet = new.is_quiet; fault = new.fault; written = L.contents new.to; has_failed = L.has_failed new.to }))
         (λ old name is_new new. LogBegins (record { file = old.file.items; is_quiet = old.is_quiet; fault = old.fault; written = L.contents old.to; has_failed = L.has_failed old.to }) name is_new
         (record { file = new.file.items; is_quiet = new.is_quiet; fault = new.fault; written = L.contents new.to; has_failed = L.has_failed new.to }))
         (λ old k _ fate new. LogTells (record { file = old.file.items; is_quiet = old.is_quiet; fault = old.fault; written = L.contents old.to; has_failed = L.has_failed old.to }) k fate

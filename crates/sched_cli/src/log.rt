@@ -1,8 +1,9 @@
-//! `--report`: says of each object that came to nothing what became of it, in a line of its own.
+//! `--report`: says of each object that came to nothing what became of it, and of each file of an inbox that is left alone though it ends as a
+//! message does, in a line of its own.
 
 ghost use Rattle.std.specs.Prelude.{◌≡◌, ◌++◌, ℕ, List, [], None, decimal, codes, false, IfOk, OnOk};
 ghost use Rattle.sched_box.specs.Journal.{fate_said};
-ghost use Rattle.sched_cli.specs.Logging.{IsObjectLine, LogBegins, LogTells, fate_words, first_fault, header_text, is_due, is_taken, place_words, shown, value_text};
+ghost use Rattle.sched_cli.specs.Logging.{IsObjectLine, LogBegins, LogPasses, LogTells, alone_line, fate_words, first_fault, header_text, is_due, is_taken, place_words, shown, value_text};
 
 use crate::header::Header;
 use crate::shown::{append_cut, append_shown};
@@ -10,7 +11,7 @@ use itoa::Buffer;
 use sched_box::{Fate, Journal, Output, WriteFault};
 use std::alloc::{AllocError, Global};
 
-/// A writer of lines about objects that came to nothing.
+/// A writer of lines about objects that came to nothing, and about files that are left alone.
 #[derive(Drop)]
 pub struct Log<L: Output> {
     alloc: Global,
@@ -49,11 +50,25 @@ impl<L: Output> Log<L> {
 }
 
 impl<L: Output> Journal for Log<L> {
+    ghost passes = { λ old name new. LogPasses (record { file = old.file.items; is_quiet = old.is_quiet; fault = old.fault; written = L.contents old.to; has_failed = L.has_failed old.to }) name
+        (record { file = new.file.items; is_quiet = new.is_quiet; fault = new.fault; written = L.contents new.to; has_failed = L.has_failed new.to }) };
+
     ghost begins = { λ old name is_new new. LogBegins (record { file = old.file.items; is_quiet = old.is_quiet; fault = old.fault; written = L.contents old.to; has_failed = L.has_failed old.to }) name is_new
         (record { file = new.file.items; is_quiet = new.is_quiet; fault = new.fault; written = L.contents new.to; has_failed = L.has_failed new.to }) };
 
     ghost tells = { λ old k _ fate new. LogTells (record { file = old.file.items; is_quiet = old.is_quiet; fault = old.fault; written = L.contents old.to; has_failed = L.has_failed old.to }) k fate
         (record { file = new.file.items; is_quiet = new.is_quiet; fault = new.fault; written = L.contents new.to; has_failed = L.has_failed new.to }) };
+
+    fn pass_over(&mut self, name: &str) {
+        let Ok(line) = alone_line(self.alloc, name) else {
+            self.fault = first_fault(self.fault, WriteFault::Memory);
+            return;
+        };
+        let Err(fault) = self.to.put(line.as_slice()) else {
+            return;
+        };
+        self.fault = first_fault(self.fault, fault);
+    }
 
     fn begin(&mut self, name: &str, is_new: bool) {
         self.is_quiet = !is_new;
@@ -103,6 +118,17 @@ fn is_taken(fate: Fate) -> bool
         Fate::Taken => true,
         Fate::Refused(_) | Fate::Unreached | Fate::Stale | Fate::Repeated => false,
     }
+}
+
+/// `roombox: left alone: 0000001-20250102T000000Z.ics`, as a line.
+fn alone_line(alloc: Global, name: &str) -> Result<Vec<u8>, AllocError>
+    ensures { IfOk result (λ line. line.items ≡ alone_line name.now) }
+{
+    let mut line = Vec::new(alloc);
+    line.extend_from_slice(b"roombox: left alone: ")?;
+    append_shown(&mut line, name.as_bytes())?;
+    line.extend_from_slice(b"\n")?;
+    Ok(line)
 }
 
 /// The name of a file and a blank.

@@ -47,6 +47,7 @@ enum Why {
     ManyZones,
     ManyOrganisers,
     ZoneOfNoRoom,
+    MoreBehind,
     NoNow,
     NoHost,
 }
@@ -72,7 +73,7 @@ struct Named {
 /// `roombox: line 3: a line before it names this room: room mailto:r1@example.com`, as a line, of octets that are refused with 90: which line can't
 /// be read, and why. Nothing where nothing is wrong with them. Each line is looked at once, and its address beside those before it.
 pub fn preamble_fault(alloc: Global, octets: &[u8], front: Front) -> Result<Vec<u8>, AllocError> {
-    let octets = preamble_in(octets);
+    let octets = front_in(octets, front);
     let mut line = Vec::new(alloc);
     let Some(found) = found_in(alloc, octets, front)? else {
         return Ok(line);
@@ -83,6 +84,14 @@ pub fn preamble_fault(alloc: Global, octets: &[u8], front: Front) -> Result<Vec<
     append_text(&mut line, octets, found.line)?;
     line.extend_from_slice(b"\n")?;
     Ok(line)
+}
+
+/// The octets that are looked at: all of a configuration, behind whose empty line nothing may stand.
+fn front_in(octets: &[u8], front: Front) -> &[u8] {
+    match front {
+        Front::Stream => preamble_in(octets),
+        Front::Configuration => octets,
+    }
 }
 
 /// `line 3: `; nothing of line 0.
@@ -96,17 +105,24 @@ fn append_number(out: &mut Vec<u8>, line: u64) -> Result<(), AllocError> {
     out.extend_from_slice(b": ")
 }
 
-/// A line of some octets, as it is shown; nothing of line 0.
+/// A line of some octets, as it is shown; nothing of line 0, and of an empty one.
 fn append_text(out: &mut Vec<u8>, octets: &[u8], number: u64) -> Result<(), AllocError> {
     let mut left = number;
     for line in octets.split(|octet| *octet == b'\n') {
         if left == 1 {
-            out.extend_from_slice(b": ")?;
-            return append_cut(out, line.strip_suffix(b"\r").unwrap_or(line));
+            return append_line(out, line.strip_suffix(b"\r").unwrap_or(line));
         }
         left = left.saturating_sub(1);
     }
     Ok(())
+}
+
+fn append_line(out: &mut Vec<u8>, line: &[u8]) -> Result<(), AllocError> {
+    if line.is_empty() {
+        return Ok(());
+    }
+    out.extend_from_slice(b": ")?;
+    append_cut(out, line)
 }
 
 /// What is wrong with some octets, if something is.
@@ -119,12 +135,14 @@ fn found_in(alloc: Global, octets: &[u8], front: Front) -> Result<Option<Found>,
     };
     let mut named = Named::new(alloc);
     let mut number: u64 = 0;
+    let mut end: usize = 0;
     for whole in text.split('\n') {
         let line = whole.strip_suffix('\r').unwrap_or(whole);
-        if line.is_empty() {
-            return Ok(named.lacks(octets, front));
-        }
         number = number.saturating_add(1);
+        end = end.saturating_add(whole.len()).saturating_add(1);
+        if line.is_empty() {
+            return Ok(named.ends_at(number, end, octets, front));
+        }
         if let Some(why) = named.take(alloc, number, line, front)? {
             return Ok(Some(Found { line: number, why }));
         }
@@ -223,6 +241,17 @@ impl Named {
         self.zones.push(address)?;
         self.zone_lines.push(number)?;
         Ok(None)
+    }
+
+    /// What is wrong where the line of this number is empty, which ends here.
+    fn ends_at(&self, line: u64, end: usize, octets: &[u8], front: Front) -> Option<Found> {
+        if end < octets.len() {
+            return Some(Found {
+                line,
+                why: Why::MoreBehind,
+            });
+        }
+        self.lacks(octets, front)
     }
 
     /// What is wrong once all lines are taken.
@@ -337,6 +366,7 @@ impl Why {
             Why::ManyZones => "it is one zone more than 64",
             Why::ManyOrganisers => "it is one organiser more than 256",
             Why::ZoneOfNoRoom => "no line names this room",
+            Why::MoreBehind => "it is empty, and more stands behind it",
             Why::NoNow => "no line is `now` and a time",
             Why::NoHost => "no line names a room or an organiser",
         }
@@ -359,7 +389,14 @@ pub fn preamble_in(octets: &[u8]) -> &[u8] {
 pub fn shown_name(alloc: Global, name: &str) -> Result<Vec<u8>, AllocError>
     ensures { IfOk result (λ text. text.items ≡ cut_shown name.now) }
 {
+    shown_octets(alloc, name.as_bytes())
+}
+
+/// The same of a name that may be no text.
+pub fn shown_octets(alloc: Global, name: &[u8]) -> Result<Vec<u8>, AllocError>
+    ensures { IfOk result (λ text. text.items ≡ cut_shown name.now) }
+{
     let mut text = Vec::new(alloc);
-    append_cut(&mut text, name.as_bytes())?;
+    append_cut(&mut text, name)?;
     Ok(text)
 }

@@ -1,4 +1,5 @@
 pub mod Calls
+pub mod Failure
 pub mod Folder
 pub mod Input
 pub mod Memory

@@ -1,11 +1,14 @@
 //! A folder of the file system.
 
-ghost use Rattle.std.specs.Prelude.{◌≡◌, ◌<◌, ◌≤◌, ℕ, ◌++◌, List, [], Bool, true, false, Option, length, is_some, IfSome, OnSome, IfOk, IsErrOf, Ok};
+ghost use Rattle.std.specs.Prelude.{◌≡◌, ◌<◌, ◌≤◌, ℕ, ◌++◌, List, [], Bool, true, false, Option, length, is_some, IfSome, IsSome, OnSome, IfOk, IfErr, IsErrOf, Ok};
 ghost use Rattle.std.proofs.lemmas.Bool.{false≢true};
 ghost use Rattle.std.specs.Io.KnownBytes.{Consumes, IsAtEnd};
+ghost use Rattle.std.specs.IoError.{error_kind};
+ghost use Rattle.sched_devices.specs.Failure.{IsNameKept};
 ghost use Rattle.sched_devices.specs.Folder.{HasCause};
 ghost use Rattle.sched_devices.specs.declared.folder.FolderFault.TheVariants.{Device, Missing, Exists};
 
+use crate::failure::{Explained, Failure, Failures};
 use crate::folder::{Folder, FolderFault};
 use crate::input::{DeviceReader, Input, lend};
 use crate::output::write_whole;
@@ -20,7 +23,8 @@ const TEMPORARY: &str = ".roombox-temporary";
 const MOST_OCTETS: usize = 1_073_741_824;
 
 /// A folder of the file system, of which nothing is known: another program may change it at any time. What it answers is what the
-/// system says, and each answer that isn't whole is counted as a failure, up to the greatest u64.
+/// system says, and each answer that isn't whole is counted as a failure, up to the greatest u64. Of the last one it remembers of
+/// which file it was, and the kind of the error.
 ///
 /// The system calls of each call, in their order:
 /// - `names`: open the folder, read its entries, close.
@@ -39,20 +43,20 @@ pub struct DiskFolder<'a, R: Files> {
     path: &'a str,
     temporary: Option<R::File>,
     opened: Option<R::File>,
-    failures: u64,
+    failures: Failures,
 }
 
 impl<'a, R: Files + AllocGlobal + Clone + Drop> DiskFolder<'a, R> {
     /// The folder at this path, which hasn't failed. Nothing is opened yet.
     pub fn new(rt: &'a R, path: &'a str) -> DiskFolder<'a, R>
-        ensures { result.failures ≡ 0 }
+        ensures { result.failures.count ≡ 0 }
     {
         DiskFolder {
             rt,
             path,
             temporary: None,
             opened: None,
-            failures: 0,
+            failures: Failures::none(),
         }
     }
 
@@ -79,7 +83,11 @@ impl<'a, R: Files + AllocGlobal + Clone + Drop> DiskFolder<'a, R> {
         ensures { IfOk result (λ octets. length octets.items ≤ 1_073_741_824) }
     {
         let path = self.path_of(name)?;
-        if !fs::metadata(self.rt, path.as_str())?.is_file() {
+        let there = fs::metadata(self.rt, path.as_str())?;
+        if there.is_dir() {
+            return Err(io::Error::from(ErrorKind::IsADirectory));
+        }
+        if !there.is_file() {
             return Err(io::Error::from(ErrorKind::InvalidInput));
         }
         let file = File::open(self.rt, path.as_str())?;
@@ -98,10 +106,8 @@ impl<'a, R: Files + AllocGlobal + Clone + Drop> DiskFolder<'a, R> {
     fn write_anew(&self, bytes: &[u8]) -> io::Result<R::File> {
         self.remove_temp()?;
         let mut file = File::create_new(self.rt, self.path_of(TEMPORARY)?.as_str())?;
-        match write_whole(&mut file, bytes) {
-            Ok(()) => Ok(file),
-            Err(_) => Err(io::Error::from(ErrorKind::WriteZero)),
-        }
+        write_whole(&mut file, bytes)?;
+        Ok(file)
     }
 
     /// Gives the temporary this name in place of its own.
@@ -134,22 +140,23 @@ impl<'a, R: Files + AllocGlobal + Clone + Drop> DiskFolder<'a, R> {
 impl<R: Files + AllocGlobal + Clone + Drop> Folder for DiskFolder<'_, R> {
     ghost temporary = { λ folder. record { is_there = is_some folder.temporary; octets = []; is_synced = false } };
 
-    ghost failed = { λ folder. folder.failures };
+    ghost failed = { λ folder. folder.failures.count };
 
     fn names(&mut self, alloc: Global) -> Result<Vec<String>, FolderFault> {
         let names = self.list(alloc);
-        tell(&mut self.failures, names)
+        tell(alloc, &mut self.failures, None, names)
     }
 
     fn read(&mut self, alloc: Global, name: &str) -> Result<Vec<u8>, FolderFault> {
         let octets = self.read_file(alloc, name);
-        tell(&mut self.failures, octets)
+        tell(alloc, &mut self.failures, Some(name), octets)
     }
 
     fn write_temp(&mut self, bytes: &[u8]) -> Result<(), FolderFault> {
         self.temporary = None;
         let written = self.write_anew(bytes);
-        let file = tell(&mut self.failures, written)?;
+        let alloc = self.rt.alloc();
+        let file = tell(alloc, &mut self.failures, Some(TEMPORARY), written)?;
         self.temporary = Some(file);
         Ok(())
     }
@@ -159,22 +166,25 @@ impl<R: Files + AllocGlobal + Clone + Drop> Folder for DiskFolder<'_, R> {
             unreachable!()
         };
         let synced = file.sync_all();
-        tell(&mut self.failures, synced)
+        let alloc = self.rt.alloc();
+        tell(alloc, &mut self.failures, Some(TEMPORARY), synced)
     }
 
     fn publish(&mut self, name: &str) -> Result<(), FolderFault> {
         let published = self.rename_temp(name);
         self.temporary = None;
-        tell(&mut self.failures, published)
+        let alloc = self.rt.alloc();
+        tell(alloc, &mut self.failures, Some(name), published)
     }
 
     fn sync_dir(&mut self) -> Result<(), FolderFault> {
         let synced = self.sync_names();
-        tell(&mut self.failures, synced)
+        let alloc = self.rt.alloc();
+        tell(alloc, &mut self.failures, None, synced)
     }
 
     fn failures(&self) -> u64 {
-        self.failures
+        self.failures.count()
     }
 
     ghost counts_held = { λ folder known. absurd (false≢true known) };
@@ -184,21 +194,48 @@ impl<R: Files + AllocGlobal + Clone + Drop> Folder for DiskFolder<'_, R> {
     ghost only_now = { λ folder left since. absurd since };
 }
 
-/// What a call of the system gave. Each error is counted as a failure, but not where it is out of memory.
-fn tell<T: Drop>(failures: &mut u64, outcome: io::Result<T>) -> Result<T, FolderFault>
+impl<R: Files> Explained for DiskFolder<'_, R> {
+    ghost reason = { λ folder. folder.failures.last };
+
+    fn last_failure(&self) -> Option<&Failure> {
+        self.failures.last()
+    }
+}
+
+/// What a call of the system gave, which was about this file, or about the folder. Each error is counted as a failure and remembered, but not
+/// where it is out of memory.
+fn tell<T: Drop>(
+    alloc: Global,
+    failures: &mut Failures,
+    name: Option<&str>,
+    outcome: io::Result<T>,
+) -> Result<T, FolderFault>
     ensures value { IfOk result (λ value. outcome ≡ Ok value) }
     ensures not_missing { IsErrOf result Missing → ⊥ }
     ensures not_existing { IsErrOf result Exists → ⊥ }
-    ensures cause { HasCause failures.old failures.new (IsErrOf result Device) }
+    ensures cause { HasCause failures.old.count failures.new.count (IsErrOf result Device) }
+    ensures told { IsErrOf result Device → IsSome failures.new.last }
+    ensures remembered { IsErrOf result Device → IfErr outcome (λ error. IfSome failures.new.last (λ last. IsNameKept last.name name.entry × (last.kind ≡ error_kind error))) }
+    ensures same { (IsErrOf result Device → ⊥) → failures.new.last ≡ failures.old.last }
 {
     match outcome {
         Ok(value) => Ok(value),
         Err(error) if error.kind() == ErrorKind::OutOfMemory => Err(FolderFault::Memory),
-        Err(_) => {
-            *failures = failures.saturating_add(1);
+        Err(error) => {
+            failures.add(Failure {
+                name: name_kept(alloc, name),
+                kind: error.kind(),
+            });
             Err(FolderFault::Device)
         }
     }
+}
+
+/// A copy of a name, if there is one and memory for it.
+fn name_kept(alloc: Global, name: Option<&str>) -> Option<String>
+    ensures { IsNameKept result name.entry }
+{
+    String::from_str(alloc, name?).ok()
 }
 
 /// All octets of a reader; an error where they are more than may be read of a file.

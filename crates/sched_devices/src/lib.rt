@@ -3,6 +3,7 @@
 
 mod call_log;
 mod disk_folder;
+mod failure;
 mod folder;
 pub mod input;
 mod memory_file;
@@ -12,6 +13,7 @@ mod temporary_file;
 
 pub use call_log::Call;
 pub use disk_folder::DiskFolder;
+pub use failure::{Explained, Failure};
 pub use folder::{Folder, FolderFault};
 pub use input::{DeviceReader, Input, lend};
 pub use memory_folder::MemoryFolder;

@@ -7,7 +7,7 @@ ghost use Rattle.sched_devices.specs.declared.output.WriteFault.TheVariants as f
 
 use crate::input::TRIES;
 use std::alloc::AllocError;
-use std::io::{ErrorKind, Write};
+use std::io::{self, ErrorKind, Write};
 
 /// Why octets weren't written whole.
 #[derive(Clone, Copy, Debug, PartialEq, Eq)]
@@ -115,15 +115,15 @@ impl<W: Write + Drop> Output for DeviceWriter<W> {
         let written = write_whole(&mut self.device, octets);
         if written.is_err() {
             self.failed = true;
+            return Err(WriteFault::Failed);
         }
-        written
+        Ok(())
     }
 }
 
 /// Writes octets whole, and flushes them.
-pub(crate) fn write_whole<W: Write>(writer: &mut W, octets: &[u8]) -> Result<(), WriteFault>
+pub(crate) fn write_whole<W: Write>(writer: &mut W, octets: &[u8]) -> io::Result<()>
     ensures written { OnOk result (Appends (W.contents writer.old) (W.contents writer.new) octets.now) }
-    ensures fault { IfErr result (λ fault. fault ≡ WriteFault.Failed) }
     ensures cut { OnErr result ((n : ℕ) × Appends (W.contents writer.old) (W.contents writer.new) (take n octets.now)) }
 {
     let mut rest = octets;
@@ -135,35 +135,33 @@ pub(crate) fn write_whole<W: Write>(writer: &mut W, octets: &[u8]) -> Result<(),
 }
 
 /// One write, tried again where it is interrupted: how many of the octets were taken, at least one.
-fn write_front<W: Write>(writer: &mut W, octets: &[u8]) -> Result<usize, WriteFault>
+fn write_front<W: Write>(writer: &mut W, octets: &[u8]) -> io::Result<usize>
     ensures some { IfOk result (λ count. 0 < count) }
     ensures within { IfOk result (λ count. count ≤ length octets.now) }
     ensures written { IfOk result (λ count. Appends (W.contents writer.old) (W.contents writer.new) (take count octets.now)) }
-    ensures fault { IfErr result (λ fault. fault ≡ WriteFault.Failed) }
     ensures keeps { OnErr result (Keeps (W.contents writer.old) (W.contents writer.new)) }
 {
     for _ in 0..TRIES {
         match writer.write(octets) {
-            Ok(0) => return Err(WriteFault::Failed),
+            Ok(0) => return Err(io::Error::from(ErrorKind::WriteZero)),
             Ok(count) => return Ok(count),
             Err(error) if error.kind() == ErrorKind::Interrupted => {}
-            Err(_) => return Err(WriteFault::Failed),
+            Err(error) => return Err(error),
         }
     }
-    Err(WriteFault::Failed)
+    Err(io::Error::from(ErrorKind::Interrupted))
 }
 
 /// One flush, tried again where it is interrupted.
-fn flush<W: Write>(writer: &mut W) -> Result<(), WriteFault>
+fn flush<W: Write>(writer: &mut W) -> io::Result<()>
     ensures keeps { Keeps (W.contents writer.old) (W.contents writer.new) }
-    ensures fault { IfErr result (λ fault. fault ≡ WriteFault.Failed) }
 {
     for _ in 0..TRIES {
         match writer.flush() {
             Ok(()) => return Ok(()),
             Err(error) if error.kind() == ErrorKind::Interrupted => {}
-            Err(_) => return Err(WriteFault::Failed),
+            Err(error) => return Err(error),
         }
     }
-    Err(WriteFault::Failed)
+    Err(io::Error::from(ErrorKind::Interrupted))
 }

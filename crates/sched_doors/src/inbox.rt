@@ -1,6 +1,7 @@
 //! A folder behind the door: each file that is read of it is a stream whose objects are made readable. What else it does isn't changed.
 
-ghost use Rattle.std.specs.Prelude.{◌≡◌, ◌≤◌, false, length, IfOk, IfSome, IsErrOf, Ok};
+ghost use Rattle.std.specs.Prelude.{◌≡◌, ◌≤◌, false, length, None, IfOk, IfSome, IsErrOf, Ok};
+ghost use Rattle.std.specs.Option.{option_or};
 ghost use Rattle.std.proofs.lemmas.Bool.{false≢true};
 ghost use Rattle.sched_devices.specs.Folder.{HasCause};
 ghost use Rattle.sched_devices.specs.declared.folder.FolderFault.TheVariants.{Device, Exists, Missing};
@@ -8,8 +9,9 @@ ghost use Rattle.sched_devices.specs.declared.folder.FolderFault.TheVariants.{De
 use crate::door::Door;
 use crate::fault::DoorFault;
 use ical_tree::Component;
-use sched_devices::{Folder, FolderFault, Input};
+use sched_devices::{Explained, Failure, Folder, FolderFault, Input};
 use std::alloc::{AllocError, Global};
+use std::io::ErrorKind;
 
 /// The most octets that a file has; this profile's choice.
 const MOST_OCTETS: usize = 1_073_741_824;
@@ -21,6 +23,8 @@ pub struct AdaptedInbox<'c, 'a, F: Folder + Drop> {
     listed: Option<&'c Component<'a>>,
     inbox: F,
     failures: u64,
+    /// The last file that would get longer than a file may be.
+    long: Option<Failure>,
 }
 
 impl<'c, 'a, F: Folder + Drop> AdaptedInbox<'c, 'a, F> {
@@ -29,11 +33,13 @@ impl<'c, 'a, F: Folder + Drop> AdaptedInbox<'c, 'a, F> {
         ensures listed { result.listed ≡ listed.entry }
         ensures inbox { result.inbox ≡ inbox }
         ensures failures { result.failures ≡ 0 }
+        ensures long { result.long ≡ None }
     {
         AdaptedInbox {
             listed,
             inbox,
             failures: 0,
+            long: None,
         }
     }
 
@@ -47,7 +53,13 @@ impl<'c, 'a, F: Folder + Drop> AdaptedInbox<'c, 'a, F> {
         let octets = self.inbox.read(alloc, name)?;
         match adapted(alloc, self.listed, octets.as_slice())? {
             Some(octets) => Ok(octets),
-            None => Err(FolderFault::Device),
+            None => {
+                self.long = Some(Failure {
+                    name: String::from_str(alloc, name).ok(),
+                    kind: ErrorKind::FileTooLarge,
+                });
+                Err(FolderFault::Device)
+            }
         }
     }
 }
@@ -96,6 +108,17 @@ impl<F: Folder + Drop> Folder for AdaptedInbox<'_, '_, F> {
     ghost counts_now = { λ folder moment left earlier leaves. absurd leaves };
 
     ghost only_now = { λ folder left since. absurd since };
+}
+
+impl<F: Folder + Explained + Drop> Explained for AdaptedInbox<'_, '_, F> {
+    ghost reason = { λ adapted. option_or adapted.long (F.reason adapted.inbox) };
+
+    fn last_failure(&self) -> Option<&Failure> {
+        match &self.long {
+            Some(failure) => Some(failure),
+            None => self.inbox.last_failure(),
+        }
+    }
 }
 
 /// What a call of the inbox gave. Each error is counted as a failure, but not where it is out of memory: a folder that doesn't tell what it

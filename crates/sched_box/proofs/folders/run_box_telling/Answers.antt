@@ -46,6 +46,8 @@ returns-clause-tells g c = λ in_known out_known.
     let named = g.O.Folder.image c.sync_names.new.place in
     let Files : List MessageName → Type 0 = λ files. AreMessageFiles inbox (map (file_of inbox) files) in
     let Names : List (List ℕ) → Type 0 = AreNames named in
-    inbox_told g.J.Journal.begins g.J.Journal.tells c.args.journal.now c.answer_all.new.journal inbox (g.I.Folder.image c.message_files.new.inbox) outbox named (config_hosts c.args.config.now) c.deref.result.now (map string_bytes c.deref-2.result.now) c.in_ok-books.books c.answer_all.new.books c.answer_all.result
+    let at = c.message_files.new.journal in
+    on_ok_then c.answer_all.result _ _ (λ tells. (at, messages.passes in_known, tells))
+    (inbox_told g.J.Journal.begins g.J.Journal.tells at c.answer_all.new.journal inbox (g.I.Folder.image c.message_files.new.inbox) outbox named (config_hosts c.args.config.now) c.deref.result.now (map string_bytes c.deref-2.result.now) c.in_ok-books.books c.answer_all.new.books c.answer_all.result
     messages.kept.same synced.kept.same (subst Files (sym c.deref.ensures.value) (messages.messages in_known)) (subst Names (sym (ap (map string_bytes) c.deref-2.ensures.value)) (listed.names (synced.kept.known ∙ out_known))) c.in_ok-books.ensures.kept
-    (on_ok_then c.answer_all.result _ _ (λ told. told (messages.kept.known ∙ in_known)) c.answer_all.ensures.tells)
+    (on_ok_then c.answer_all.result _ _ (λ told. told (messages.kept.known ∙ in_known)) c.answer_all.ensures.tells))
