@@ -5,7 +5,7 @@
 //! - `fail-in K`, `fail-out K`: the K-th call of the folder fails; `half-out K`: it is done, and fails then; `stop-in K`, `stop-out K`: the machine
 //!   stops at it; `failed-always`: the outbox is empty and has failed as often as a count goes;
 //! - `run`: what comes of a run; `runs`: how many files one finds, or the next where it finds no memory; `command`: the status of the command and
-//!   what it says; `has NAME FILES`: whether the outbox holds these octets there; `names`: its names; `calls`: its calls so far;
+//!   what it says; `compare`: what a comparison finds; `compare-command`: the status of its command and what it says; `has NAME FILES`: whether the outbox holds these octets there; `names`: its names; `calls`: its calls so far;
 //!   `restart kept FILES`, `restart lost FILES`: the machine starts again, names that weren't synced are there or not, and what wasn't synced has
 //!   these octets.
 
@@ -15,8 +15,8 @@ use example_cases::files::read_all;
 use example_cases::spelled::octets_of;
 use example_cases::words::count;
 use example_cases::{Answers, NoAnswer};
-use sched_box::{BoxFault, BoxReport, Config, run_box};
-use sched_cli::run_folders;
+use sched_box::{BoxFault, BoxReport, Config, compare_box, run_box};
+use sched_cli::{run_compare, run_folders};
 use sched_devices::{Folder, FolderFault, MemoryFolder};
 use std::alloc::Global;
 use std::rt::Files;
@@ -53,6 +53,8 @@ impl Scene {
             "run" => answers.add(self.run_text()?.as_str())?,
             "runs" => answers.add(self.runs_text()?.as_str())?,
             "command" => answers.add(self.command_text()?.as_str())?,
+            "compare" => answers.add(self.compare_text()?.as_str())?,
+            "compare-command" => answers.add(self.compare_command_text()?.as_str())?,
             "names" => answers.add(self.names()?.as_str())?,
             "calls" => answers.add(self.calls()?.as_str())?,
             "has" => answers.add(self.has(rt, rest)?)?,
@@ -128,11 +130,42 @@ impl Scene {
             &mut self.outbox,
             &mut errors,
         );
-        let said = String::from_utf8_lossy(alloc, errors.as_slice())?;
-        if said.is_empty() {
-            return Ok(format!(in alloc; "status {status}")?);
+        said_text(alloc, status, errors.as_slice())
+    }
+
+    /// What a comparison finds, in words.
+    fn compare_text(&mut self) -> Result<String, NoAnswer> {
+        let alloc = self.alloc;
+        let config = Config::read(alloc, self.config.as_slice())?;
+        match compare_box(alloc, &mut self.inbox, &mut self.outbox, &config) {
+            Ok(found) => {
+                let mut text = format!(in alloc;
+                    "{} files, {} missing",
+                    found.files, found.missing
+                )?;
+                for name in &found.differing {
+                    append(&mut text, ", differs ", name.as_str())?;
+                }
+                Ok(text)
+            }
+            Err(BoxFault::Device) => Ok(String::from_str(alloc, "device")?),
+            Err(BoxFault::Differs(_)) => Err(NoAnswer::Unreadable),
+            Err(BoxFault::Memory) => Err(NoAnswer::Memory),
         }
-        Ok(format!(in alloc; "status {status}, {}", said.trim_end())?)
+    }
+
+    /// The status of the command that compares alone, and what it says.
+    fn compare_command_text(&mut self) -> Result<String, NoAnswer> {
+        let alloc = self.alloc;
+        let mut errors = Vec::new(alloc);
+        let status = run_compare(
+            alloc,
+            self.config.as_slice(),
+            &mut self.inbox,
+            &mut self.outbox,
+            &mut errors,
+        );
+        said_text(alloc, status, errors.as_slice())
     }
 
     /// The names of the outbox, in order.
@@ -181,6 +214,16 @@ impl Scene {
         self.outbox = self.outbox.restart(how == "lost", torn.as_slice())?;
         Ok(())
     }
+}
+
+/// A status, and the lines that were said, one after another.
+fn said_text(alloc: Global, status: u8, errors: &[u8]) -> Result<String, NoAnswer> {
+    let said = String::from_utf8_lossy(alloc, errors)?;
+    let mut text = format!(in alloc; "status {status}")?;
+    for line in said.lines() {
+        append(&mut text, ", ", line)?;
+    }
+    Ok(text)
 }
 
 /// A folder holds the octets of files under a name.
