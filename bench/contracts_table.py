@@ -80,7 +80,7 @@ CALLS = {
     },
     "program": {
         "sched_devices": ["Input::*", "Output::*", "DeviceReader::with_capacity", "DeviceWriter::new", "Folder::*", "MemoryFolder::restart"],
-        "sched_box": ["Config::*", "read_preamble", "Objects::next_object", "serve", "serve_stream*", "keep", "shown_meetings", "run_box*", "MessageName::*"],
+        "sched_box": ["Config::*", "read_preamble", "Objects::next_object", "serve", "serve_stream*", "keep", "shown_meetings", "run_box*", "compare_box", "MessageName::*"],
         "box_laws": ["*"],
         "fault_places": ["place_of", "in_the_way", "flaw_in_object"],
         "sched_cli": ["run_serve*", "run_keep", "run_check", "run_expand", "run_agenda", "run_free", "run_explain*", "run_folders*", "run_[!ar]*"],

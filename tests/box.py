@@ -89,12 +89,12 @@ class Boxes:
     def put(self, name, text):
         (self.inbox / name).write_bytes(text.encode())
 
-    def words(self):
-        return [self.program, "box", str(self.config), str(self.inbox), str(self.outbox)]
+    def words(self, *options):
+        return [self.program, "box", *options, str(self.config), str(self.inbox), str(self.outbox)]
 
-    def run(self, **how):
+    def run(self, *options, **how):
         """The status, the standard output and the standard error of a run."""
-        ended = subprocess.run(self.words(), stdin=subprocess.DEVNULL, capture_output=True, timeout=300, **how)
+        ended = subprocess.run(self.words(*options), stdin=subprocess.DEVNULL, capture_output=True, timeout=300, **how)
         return ended.returncode, ended.stdout.decode(), without_reason(ended.stderr.decode())
 
     def begun(self):
@@ -201,6 +201,81 @@ def books_over_all(cases, parent):
     cases.holds("the second answer", boxes.answers()[named(2, end="out")], declined("b", clash))
 
 
+# ---- no answer beside one that differs, and a comparison alone
+
+
+def counted(files, missing):
+    return f"roombox: files: {files}, missing answers: {missing}\n"
+
+
+def differing(*numbers):
+    return "".join(f"roombox: differs {named(number, end='out')}\n" for number in numbers)
+
+
+def one_yes_for_an_hour(cases, parent):
+    """A file that was put before an answered one: the later answer says that the hour is given away, so nothing is published beside it."""
+    boxes = Boxes(parent)
+    boxes.put(named(2), request("b", "20250310T090000Z", "DURATION:PT1H"))
+    cases.holds("a file alone", boxes.run(), DONE)
+    boxes.put(named(1), request("a", "20250310T090000Z", "DURATION:PT1H"))
+    wanted, marks = {named(2, end="out"): accepted("b")}, boxes.marks()
+    cases.holds("a file before it", boxes.run(), (3, "", differing(2)))
+    cases.holds("one yes for the hour", (boxes.answers(), boxes.marks()), (wanted, marks))
+    cases.holds("a comparison counts it as missing", boxes.run("--compare"), (3, "", differing(2) + counted(2, 1)))
+    boxes.put(named(1), request("a", "20250310T100000Z", "DURATION:PT1H"))
+    cases.holds("one that changes nothing behind it", boxes.run(), DONE)
+    cases.holds("is answered", (boxes.answers(), boxes.marks()[named(2, end="out")]), ({**wanted, named(1, end="out"): accepted("a")}, marks[named(2, end="out")]))
+
+
+def comparisons(cases, parent):
+    """A comparison writes nothing, goes on behind a file that differs, and counts what is missing."""
+    boxes = Boxes(parent)
+    cases.holds("nothing to compare", boxes.run("--compare"), (0, "", counted(0, 0)))
+    for number in range(1, 6):
+        boxes.put(named(number), request(f"m{number}", f"20250310T{8 + number:02}0000Z", "DURATION:PT1H"))
+    cases.holds("nothing is answered", (boxes.run("--compare"), boxes.names()), ((0, "", counted(5, 5)), []))
+    cases.holds("all is answered", boxes.run(), DONE)
+    cases.holds("nothing differs", boxes.run("--compare"), (0, "", counted(5, 0)))
+    for number in (2, 4):
+        (boxes.outbox / named(number, end="out")).write_text("x")
+    for number in (3, 5):
+        (boxes.outbox / named(number, end="out")).unlink()
+    (boxes.outbox / named(7, end="out")).write_text("of no file")
+    found = (boxes.answers(), boxes.marks(), os.stat(boxes.outbox).st_mtime_ns, os.stat(boxes.inbox).st_mtime_ns)
+    cases.holds("two differ and two are missing", boxes.run("--compare"), (3, "", differing(2, 4) + counted(5, 2)))
+    cases.holds("the same behind the door", boxes.run("--compare", "--adapt"), (3, "", differing(2, 4) + counted(5, 2)))
+    cases.holds("a comparison changes nothing", (boxes.answers(), boxes.marks(), os.stat(boxes.outbox).st_mtime_ns, os.stat(boxes.inbox).st_mtime_ns), found)
+    config = boxes.config.read_text()
+    boxes.config.write_text("room mailto:other@example.com\n")
+    for number in (2, 4):
+        (boxes.outbox / named(number, end="out")).unlink()
+    cases.holds("another CONFIG", boxes.run("--compare"), (3, "", differing(1) + counted(5, 4)))
+    boxes.config.write_text("rooms\n")
+    cases.holds("a refused CONFIG", boxes.run("--compare"), REFUSED)
+    boxes.config.write_text(config)
+    ended = subprocess.run(boxes.words("--compare", "--report"), stdin=subprocess.DEVNULL, capture_output=True, text=True)
+    cases.holds("with --report", (ended.returncode, ended.stdout, ended.stderr.startswith("error: ")), (2, "", True))
+    shutil.rmtree(boxes.outbox)
+    cases.holds("no outbox", boxes.run("--compare"), DEVICE)
+
+
+def comparison_calls(cases, parent):
+    """A comparison calls nothing that writes or syncs."""
+    if not shutil.which("strace"):
+        print("left out: the calls of a comparison (no strace)")
+        return
+    boxes = Boxes(parent)
+    boxes.put(named(1), request("a", "20250310T090000Z", "DURATION:PT1H"))
+    boxes.put(named(2), request("b", "20250310T100000Z", "DURATION:PT1H"))
+    (boxes.outbox / named(1, end="out")).write_text("x")
+    log = boxes.folder / "calls"
+    traced = "trace=fsync,fdatasync,sync,syncfs,link,linkat,rename,renameat,renameat2,unlink,unlinkat,mkdir,mkdirat,ftruncate,truncate,chmod,fchmod,openat,open,creat"
+    ended = subprocess.run(["strace", "-qq", "-f", "-o", str(log), "-e", traced, *boxes.words("--compare")], stdin=subprocess.DEVNULL, capture_output=True)
+    cases.holds("a comparison under strace", ended.returncode, 3)
+    lines = log.read_text().splitlines()
+    cases.holds("no call writes", [line for line in lines if "open" not in line or "O_WRONLY" in line or "O_RDWR" in line or "O_CREAT" in line], [])
+
+
 # ---- what is left alone, and what is refused
 
 
@@ -285,6 +360,11 @@ def without_leave(cases, parent):
     made = boxes()
     made.outbox.chmod(0o555)
     cases.holds("an outbox that may not be written", (made.run(**how), made.names()), (DEVICE, []))
+    made = boxes()
+    cases.holds("an answer to compare", made.run(**how), DONE)
+    made.outbox.chmod(0o555)
+    made.inbox.chmod(0o555)
+    cases.holds("a comparison of folders that may only be read", (made.run("--compare", **how), made.names()), ((0, "", counted(1, 0)), [named(1, end="out")]))
     made = boxes()
     made.inbox.chmod(0o333)
     cases.holds("an inbox that may not be listed", (made.run(**how), made.names()), (DEVICE, []))
@@ -570,7 +650,7 @@ def on_a_terminal(cases, parent):
 
 def main():
     cases = Cases()
-    parts = [two_and_a_third, whole_and_empty, longest, order_of_names, books_over_all, other_names, of_no_use, without_leave, configurations, usage, temporaries, temporary_in_a_listing, order_of_calls,
+    parts = [two_and_a_third, whole_and_empty, longest, order_of_names, books_over_all, one_yes_for_an_hour, comparisons, comparison_calls, other_names, of_no_use, without_leave, configurations, usage, temporaries, temporary_in_a_listing, order_of_calls,
              failing_calls, on_a_terminal, full_disk, vanished, killed]
     with tempfile.TemporaryDirectory(dir=sys.argv[2] if len(sys.argv) > 2 else None) as parent:
         os.chmod(parent, 0o755)

@@ -5,8 +5,9 @@
 //! - `fail-in K`, `fail-out K`: the K-th call of the folder fails; `half-out K`: it is done, and fails then; `stop-in K`, `stop-out K`: the machine
 //!   stops at it; `failed-always`: the outbox is empty and has failed as often as a count goes;
 //! - `run`: what comes of a run; `runs`: how many files one finds, or the next where it finds no memory; `command`: the status of the command and
-//!   what it says; `report`: the status of the command with a report, and the lines of that; `has NAME FILES`: whether the outbox holds these
-//!   octets there; `names`: its names; `calls`: its calls so far;
+//!   what it says; `report`: the status of the command with a report, and the lines of that; `compare`: what a comparison finds;
+//!   `compare-command`: the status of its command and what it says; `has NAME FILES`: whether the outbox holds these octets there; `names`: its
+//!   names; `calls`: its calls so far;
 //!   `restart kept FILES`, `restart lost FILES`: the machine starts again, names that weren't synced are there or not, and what wasn't synced has
 //!   these octets.
 
@@ -16,8 +17,8 @@ use example_cases::files::read_all;
 use example_cases::spelled::octets_of;
 use example_cases::words::count;
 use example_cases::{Answers, NoAnswer};
-use sched_box::{BoxFault, BoxReport, Config, run_box};
-use sched_cli::{Log, run_folders, run_folders_report};
+use sched_box::{BoxFault, BoxReport, Config, compare_box, run_box};
+use sched_cli::{Log, run_compare, run_folders, run_folders_report};
 use sched_devices::{DeviceWriter, Folder, FolderFault, MemoryFolder};
 use std::alloc::Global;
 use std::rt::Files;
@@ -55,6 +56,8 @@ impl Scene {
             "runs" => answers.add(self.runs_text()?.as_str())?,
             "command" => answers.add(self.command_text()?.as_str())?,
             "report" => answers.add(self.report_text()?.as_str())?,
+            "compare" => answers.add(self.compare_text()?.as_str())?,
+            "compare-command" => answers.add(self.compare_command_text()?.as_str())?,
             "names" => answers.add(self.names()?.as_str())?,
             "calls" => answers.add(self.calls()?.as_str())?,
             "has" => answers.add(self.has(rt, rest)?)?,
@@ -130,7 +133,8 @@ impl Scene {
             &mut self.outbox,
             &mut errors,
         );
-        status_text(alloc, status, errors.as_slice())
+        said_text(alloc, status, errors.as_slice())
+    }
     }
 
     /// The status of the command with a report, and the lines of that, with ` / ` behind each.
@@ -155,6 +159,41 @@ impl Scene {
             }
         }
         status_text(alloc, status, shown.as_slice())
+    }
+
+    /// What a comparison finds, in words.
+    fn compare_text(&mut self) -> Result<String, NoAnswer> {
+        let alloc = self.alloc;
+        let config = Config::read(alloc, self.config.as_slice())?;
+        match compare_box(alloc, &mut self.inbox, &mut self.outbox, &config) {
+            Ok(found) => {
+                let mut text = format!(in alloc;
+                    "{} files, {} missing",
+                    found.files, found.missing
+                )?;
+                for name in &found.differing {
+                    append(&mut text, ", differs ", name.as_str())?;
+                }
+                Ok(text)
+            }
+            Err(BoxFault::Device) => Ok(String::from_str(alloc, "device")?),
+            Err(BoxFault::Differs(_)) => Err(NoAnswer::Unreadable),
+            Err(BoxFault::Memory) => Err(NoAnswer::Memory),
+        }
+    }
+
+    /// The status of the command that compares alone, and what it says.
+    fn compare_command_text(&mut self) -> Result<String, NoAnswer> {
+        let alloc = self.alloc;
+        let mut errors = Vec::new(alloc);
+        let status = run_compare(
+            alloc,
+            self.config.as_slice(),
+            &mut self.inbox,
+            &mut self.outbox,
+            &mut errors,
+        );
+        said_text(alloc, status, errors.as_slice())
     }
 
     /// The names of the outbox, in order.
@@ -212,6 +251,16 @@ fn status_text(alloc: Global, status: u8, said: &[u8]) -> Result<String, NoAnswe
         return Ok(format!(in alloc; "status {status}")?);
     }
     Ok(format!(in alloc; "status {status}, {}", said.trim_end())?)
+}
+
+/// A status, and the lines that were said, one after another.
+fn said_text(alloc: Global, status: u8, errors: &[u8]) -> Result<String, NoAnswer> {
+    let said = String::from_utf8_lossy(alloc, errors)?;
+    let mut text = format!(in alloc; "status {status}")?;
+    for line in said.lines() {
+        append(&mut text, ", ", line)?;
+    }
+    Ok(text)
 }
 
 /// A folder holds the octets of files under a name.

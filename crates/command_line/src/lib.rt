@@ -51,6 +51,8 @@ pub enum Invocation<'a> {
         inbox: &'a str,
         outbox: &'a str,
         report: bool,
+        /// Nothing is written: the answers are compared alone.
+        compare: bool,
         reading: Reading<'a>,
     },
 }
@@ -251,14 +253,22 @@ box, in the byte order of their names.
 Output: for each of them a file in OUTBOX, whole or not at all, of the name
   00000001-20250102T000000Z.out
 with what `roombox serve` writes. One that is there is compared, and never written again: run it
-again after a crash, and when files have come. The inbox has to keep all files, since the books
-are made from them. On a terminal it says how many files it has read, after each 1000th.
+again after a crash, and when files have come. Nothing is written before all that are there are
+compared. The inbox has to keep all files, since the books are made from them. On a terminal it
+says how many files it has read, after each 1000th.
 
-Exit status: 0 done: each file is answered; 2 usage; 3 CONFIG (90) or FILE is refused, or a
-file of OUTBOX differs from the answer: standard error has its name; 4 a file or a folder can't
-be used; 5 out of memory. docs/REFERENCE.md lists all numbers.
+With --compare it writes nothing, and OUTBOX may be one that can only be read: it goes on behind a
+file that differs. Standard error has the name of each that does, and then how many files there are
+and how many answers are missing, which is no fault:
+  roombox: differs 00000001-20250102T000000Z.out
+  roombox: files: 12, missing answers: 2
 
-Example: roombox box rooms.conf inbox outbox";
+Exit status: 0 done: each file is answered, or with --compare none differs; 2 usage; 3 CONFIG (90)
+or FILE is refused, or a file of OUTBOX differs from the answer: standard error has its name; 4 a
+file or a folder can't be used; 5 out of memory. docs/REFERENCE.md lists all numbers.
+
+Example: roombox box rooms.conf inbox outbox
+Example: roombox box --compare rooms.conf inbox outbox";
 
 const ADAPT: &str =
     "Makes objects readable whose VTIMEZONEs say more than a room reads, and hands all others on.";
@@ -317,6 +327,9 @@ const REPORT_HELP: &str =
 
 const BOX_REPORT_HELP: &str =
     "Say on standard error which objects of files that weren't answered before came to nothing, and why";
+
+const COMPARE_HELP: &str =
+    "Write nothing: name each file of OUTBOX that differs, and count the answers that are missing";
 
 const REPLY_TO_HELP: &str = "Hand on answers to the object of this file, in its words";
 
@@ -540,10 +553,16 @@ fn box_command<'a>(alloc: Global) -> Result<Command<'a>, AllocError> {
         .long("report")
         .action(ArgAction::SetTrue)
         .help(BOX_REPORT_HELP);
+    let compare = Arg::new(alloc, "compare")
+        .long("compare")
+        .action(ArgAction::SetTrue)
+        .help(COMPARE_HELP)
+        .conflicts_with("report")?;
     let command = Command::new(alloc, "box")
         .about(BOX)
         .after_help(BOX_MORE)
         .arg(report)?
+        .arg(compare)?
         .arg(required(alloc, "CONFIG", CONFIG_HELP))?
         .arg(required(alloc, "INBOX", INBOX_HELP))?
         .arg(required(alloc, "OUTBOX", OUTBOX_HELP))?;
@@ -607,6 +626,7 @@ fn invocation_of<'a>(matches: &ArgMatches<'a>) -> Invocation<'a> {
             inbox: words.get_str("INBOX").unwrap_or(""),
             outbox: words.get_str("OUTBOX").unwrap_or(""),
             report: words.get_flag("report"),
+            compare: words.get_flag("compare"),
             reading: reading_of(words),
         },
         Some(("serve", words)) => Invocation::Serve {

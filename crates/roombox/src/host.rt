@@ -16,8 +16,8 @@ use sched_box::{DeviceReader, DeviceWriter, Input, Output};
 use sched_cli::commands::{KeptText, run_check, run_keep, run_serve};
 use sched_cli::status::{USAGE, report_device, report_memory, report_read, report_too_long};
 use sched_cli::{
-    Log, Tally, run_expand, run_explain, run_explain_object, run_folders, run_folders_report,
-    run_meetings, run_serve_report,
+    Log, Tally, run_compare, run_expand, run_explain, run_explain_object, run_folders,
+    run_folders_report, run_meetings, run_serve_report,
 };
 use sched_devices::{DiskFolder, Explained, Folder};
 use std::alloc::Global;
@@ -169,12 +169,14 @@ fn invoke<R: Runtime + AllocGlobal>(
             inbox,
             outbox,
             report,
+            compare,
             reading,
         } => {
             let folders = FolderWords {
                 inbox,
                 outbox,
                 report,
+                compare,
             };
             invoke_box(rt, alloc, stderr, config, folders, reading)
         }
@@ -509,6 +511,7 @@ fn invoke_box<R: Runtime + AllocGlobal>(
         inbox: words.inbox,
         outbox: words.outbox,
         report: words.report,
+        compare: words.compare,
         is_watched: stderr.is_terminal(),
     };
     match reading {
@@ -523,6 +526,7 @@ struct FolderWords<'a> {
     inbox: &'a str,
     outbox: &'a str,
     report: bool,
+    compare: bool,
 }
 
 /// What `box` works on.
@@ -533,6 +537,8 @@ pub(crate) struct Folders<'a> {
     pub(crate) outbox: &'a str,
     /// It is said what came to nothing.
     pub(crate) report: bool,
+    /// Nothing is written: the answers are compared alone.
+    pub(crate) compare: bool,
     /// Someone watches how far it is.
     pub(crate) is_watched: bool,
 }
@@ -551,7 +557,7 @@ pub(crate) fn answer_files<R: Runtime + AllocGlobal, I: Folder + Explained + Dro
     answer_inbox(rt, alloc, folders, &mut inbox)
 }
 
-/// Answers them, and says what came to nothing where that is wanted.
+/// Answers them, and says what came to nothing where that is wanted; or compares their answers alone.
 fn answer_inbox<R: Runtime + AllocGlobal, I: Folder + Explained>(
     rt: &R,
     alloc: Global,
@@ -560,7 +566,9 @@ fn answer_inbox<R: Runtime + AllocGlobal, I: Folder + Explained>(
 ) -> u8 {
     let mut errors = DeviceWriter::new(ErrorPrinter { to: rt });
     let mut outbox = DiskFolder::new(rt, folders.outbox);
-    let status = if folders.report {
+    let status = if folders.compare {
+        run_compare(alloc, folders.config, inbox, &mut outbox, &mut errors)
+    } else if folders.report {
         let mut log = Log::new(alloc, DeviceWriter::new(ErrorPrinter { to: rt }));
         run_folders_report(
             alloc,

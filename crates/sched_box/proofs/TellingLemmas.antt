@@ -51,26 +51,32 @@ pub no_file_told : {Told : Type 0} (Begins : Told → List ℕ → Bool → Told
     → FilesTold Begins Tells inbox theirs old [] books books old
 no_file_told Begins Tells inbox theirs old books before have = (before, have, (refl, refl))
 
-told_behind : {Told : Type 0} (Begins : Told → List ℕ → Bool → Told → Type 0) (Tells : Told → ℕ → List ℕ → Fate → Told → Type 0) (inbox : Image) (theirs : List (List ℕ)) (old : Told) (names : List MessageName) (name : MessageName) (before mid after : Box) (so begun new : Told) (is_new : Bool) (answers : List ℕ)
-    → AllFilesTold Begins Tells inbox theirs old names before mid so → Begins so (string_bytes name.name) is_new begun → IsNew theirs name is_new
-    → TellsObjects Tells begun new name.moment (file_of inbox name).octets mid after answers → AllFilesTold Begins Tells inbox theirs old (names ++ name ∷ []) before after new
-told_behind {Told} Begins Tells inbox theirs old [] name before mid after so begun new is_new answers (same, here) begins is tells =
-    let P : Told → Type 0 = λ z. Begins z (string_bytes name.name) is_new begun in
-    let Q : Box → Type 0 = λ b. TellsObjects Tells begun new name.moment (file_of inbox name).octets b after answers in
-    (begun, new, is_new, after, answers, subst P same begins, is, subst Q here tells, (refl, refl))
-told_behind Begins Tells inbox theirs old (n ∷ ns) name before mid after so begun new is_new answers (b, m, flag, box, sent, one, two, three, more) begins is tells =
-    (b, m, flag, box, sent, one, two, three, told_behind Begins Tells inbox theirs m ns name box mid after so begun new is_new answers more begins is tells)
+told_on : {Told : Type 0} (Begins : Told → List ℕ → Bool → Told → Type 0) (Tells : Told → ℕ → List ℕ → Fate → Told → Type 0) (inbox : Image) (theirs : List (List ℕ)) (old : Told) (names more : List MessageName) (before mid after : Box) (so new : Told)
+    → AllFilesTold Begins Tells inbox theirs old names before mid so → AllFilesTold Begins Tells inbox theirs so more mid after new → AllFilesTold Begins Tells inbox theirs old (names ++ more) before after new
+told_on {Told} Begins Tells inbox theirs old [] more before mid after so new (same, here) rest =
+    let P : Told → Type 0 = λ z. AllFilesTold Begins Tells inbox theirs z more before after new in
+    let Q : Box → Type 0 = λ b. AllFilesTold Begins Tells inbox theirs so more b after new in
+    subst P same (subst Q here rest)
+told_on Begins Tells inbox theirs old (n ∷ ns) more before mid after so new (b, m, flag, box, sent, one, two, three, further) rest =
+    (b, m, flag, box, sent, one, two, three, told_on Begins Tells inbox theirs m ns more box mid after so new further rest)
 
-pub file_told : {Told : Type 0} (Begins : Told → List ℕ → Bool → Told → Type 0) (Tells : Told → ℕ → List ℕ → Fate → Told → Type 0) (inbox image : Image) (known known' : Bool) (theirs : List (List ℕ)) (old : Told) (all names : List MessageName) (name : MessageName) (olds news newer : Books) (so begun new : Told) (is_new : Bool) (flag_name : List ℕ) (answers : List ℕ)
-    → all ≡ names ++ name ∷ [] → flag_name ≡ string_bytes name.name → known ≡ known' → image ≡ inbox → (known' ≡ true → FilesTold Begins Tells inbox theirs old names olds news so) → Begins so flag_name is_new begun → IsNew theirs name is_new
-    → (known ≡ true → TellsOctets Tells begun new name.moment (file_of image name).octets news newer answers) → known' ≡ true → FilesTold Begins Tells inbox theirs old all olds newer new
-file_told {Told} Begins Tells inbox image known known' theirs old all names name olds news newer so begun new is_new flag_name answers all_is name_is known_is image_is sofar begins is tells t before have =
-    let (mid, hosted, told) = sofar t before have in
-    let P : Image → Type 0 = λ i. TellsOctets Tells begun new name.moment (file_of i name).octets news newer answers in
-    let (after, hosted', objects) = subst P image_is (tells (known_is ∙ t)) mid hosted in
+-- some files, and then others
+pub files_told : {Told : Type 0} (Begins : Told → List ℕ → Bool → Told → Type 0) (Tells : Told → ℕ → List ℕ → Fate → Told → Type 0) (inbox : Image) (theirs : List (List ℕ)) (old so new : Told) (all names more : List MessageName) (olds mids news : Books)
+    → all ≡ names ++ more → FilesTold Begins Tells inbox theirs old names olds mids so → FilesTold Begins Tells inbox theirs so more mids news new → FilesTold Begins Tells inbox theirs old all olds news new
+files_told {Told} Begins Tells inbox theirs old so new all names more olds mids news all_is first then before have =
+    let (mid, hosted, told) = first before have in
+    let (after, hosted', rest) = then mid hosted in
     let Q : List MessageName → Type 0 = λ l. AllFilesTold Begins Tells inbox theirs old l before after new in
-    let R : List ℕ → Type 0 = λ n. Begins so n is_new begun in
-    (after, hosted', subst Q (sym all_is) (told_behind Begins Tells inbox theirs old names name before mid after so begun new is_new answers told (subst R name_is begins) is objects))
+    (after, hosted', subst Q (sym all_is) (told_on Begins Tells inbox theirs old names more before mid after so new told rest))
+
+-- one file
+pub file_told : {Told : Type 0} (Begins : Told → List ℕ → Bool → Told → Type 0) (Tells : Told → ℕ → List ℕ → Fate → Told → Type 0) (inbox : Image) (theirs : List (List ℕ)) (old begun new : Told) (name : MessageName) (olds news : Books) (is_new : Bool) (flag_name : List ℕ) (answers : List ℕ)
+    → flag_name ≡ string_bytes name.name → Begins old flag_name is_new begun → IsNew theirs name is_new → TellsOctets Tells begun new name.moment (file_of inbox name).octets olds news answers
+    → FilesTold Begins Tells inbox theirs old (name ∷ []) olds news new
+file_told {Told} Begins Tells inbox theirs old begun new name olds news is_new flag_name answers name_is begins is tells before have =
+    let (after, hosted, objects) = tells before have in
+    let R : List ℕ → Type 0 = λ n. Begins old n is_new begun in
+    (after, hosted, (begun, new, is_new, after, answers, subst R name_is begins, is, objects, (refl, refl)))
 
 -- ---- the whole inbox
 

@@ -1,20 +1,25 @@
 -- How far a run of the box has come: the files of its inbox that were answered, and what its outbox holds and may lose.
-use Rattle.std.specs.Prelude.{◌≡◌, ◌≢◌, ◌⊎◌, ◌≤◌, ◌∷◌, ℕ, ℤ, List, [], Bool, true, false, map, take, length, Some, None, Contains, AllPairs, Result, Ok, Err, string_bytes}
-use Rattle.std.specs.Option.{unwrap_or}
+use Rattle.std.specs.Prelude.{◌≡◌, ◌≢◌, ◌⊎◌, ◌≤◌, ◌∷◌, ◌+◌, ◌++◌, if◌then◌else◌, ℕ, ℤ, List, [], Bool, true, map, filter, take, drop, length, Some, None, Contains, AllPairs, Result, Ok, Err, string_bytes}
+use Rattle.std.specs.Option.{is_none, unwrap_or}
 use Rattle.std.specs.declared.cmp.Ordering.TheVariants.{Less}
 use Rattle.sched_devices.specs.declared.folder.FolderFault.{FolderFault}
 use Rattle.sched_devices.specs.declared.folder.FolderFault.TheVariants as folder
 use Rattle.profile.specs.rooms.Revisions.{octets_cmp}
-use Rattle.profile.specs.streams.Folders.{AnswersFile, AnswersFiles, AreSame, File, Image, IsBeginning, MessageFile, count_missing, with_files}
+use Rattle.profile.specs.streams.Comparing.{AreEqual, IsComparison, names_differing}
+use Rattle.profile.specs.streams.Folders.{AnswersFile, AnswersFiles, AreSame, File, Image, IsBeginning, IsMessageFile, MessageFile, count_missing, with_files}
 use Rattle.profile.specs.streams.Streams.{AllAnswers, AreObjects, Box}
 use Rattle.sched_box.specs.Books.{AreBooksOf}
 use Rattle.sched_box.specs.Boxes.{IsBreak}
 use Rattle.sched_box.specs.FileNames.{name_stem, renamed}
 use Rattle.sched_box.specs.declared.books.Books.{Books}
 use Rattle.sched_box.specs.declared.file_names.MessageName.{MessageName}
+use Rattle.sched_box.specs.declared.folders.Answer.{Answer}
 use Rattle.sched_box.specs.declared.folders.BoxFault.{BoxFault}
 use Rattle.sched_box.specs.declared.folders.BoxFault.TheVariants.{Device, Differs, Memory}
 use Rattle.sched_box.specs.declared.folders.BoxReport.{BoxReport}
+use Rattle.sched_box.specs.declared.folders.Comparison.{Comparison}
+use Rattle.sched_box.specs.declared.folders.Standing.{Standing}
+use Rattle.sched_box.specs.declared.folders.Standing.TheVariants as standing
 
 -- what a fault of a folder is for a run
 abbrev pub box_fault : FolderFault → BoxFault
@@ -37,6 +42,10 @@ file_of inbox name = record {
   octets = unwrap_or (inbox (string_bytes name.name)) [];
 }
 
+-- these are messages of the inbox
+abbrev pub AreMessagesOf : Image → List MessageName → Type 0
+AreMessagesOf inbox names = (name : MessageName) → Contains names name → IsMessageFile inbox (file_of inbox name)
+
 -- the name of the answers to a message
 abbrev pub answers_name : MessageName → List ℕ
 answers_name name = renamed (string_bytes name.name)
@@ -44,6 +53,17 @@ answers_name name = renamed (string_bytes name.name)
 -- no two have one name for their answers
 abbrev pub AreApart : List MessageName → Type 0
 AreApart names = AllPairs (λ a b. answers_name a ≢ answers_name b) names
+
+-- the answers to none of them are among these names
+abbrev pub NoneAmong : List (List ℕ) → List MessageName → Type 0
+NoneAmong theirs names = (name : MessageName) → Contains names name → Contains theirs (answers_name name) → ⊥
+
+-- those to the last of them are
+pub record IsLast (theirs : List (List ℕ)) (names : List MessageName) : Type 0 where
+  pub earlier : List MessageName
+  pub last : MessageName
+  pub is : names ≡ earlier ++ last ∷ []
+  pub among : Contains theirs (answers_name last)
 
 -- these octets answer a stream of objects, from whatever the books are
 abbrev pub AnswersOctets : ℤ → List ℕ → Books → Books → List ℕ → Type 0
@@ -81,27 +101,39 @@ pub record IsGained (file : File) (old new : Image) (before after : Image → Ty
 abbrev pub IsWhole : File → Image → Image → Type 0
 IsWhole file old new = AreSame new old ⊎ AreSame new (with_files old (file ∷ []))
 
--- it stood there already, and nothing has changed
-pub record Stands (file : File) (old new : Image) (before after : Image → Type 0) : Type 0 where
-  pub held : old file.name ≡ Some file.octets
-  pub same : new ≡ old
-  pub stop : (left : Image) → after left → before left
+-- an answer as a file of the outbox
+abbrev pub file_in : Answer → File
+file_in answer = record { name = string_bytes answer.name; octets = answer.octets.items }
 
--- another one stands there
-pub record StandsOther (file : File) (old new : Image) (name : List ℕ) : Type 0 where
+-- no two have one name
+abbrev pub AreNamedApart : List Answer → Type 0
+AreNamedApart answers = AllPairs (λ a b. string_bytes a.name ≢ string_bytes b.name) answers
+
+-- another file stands under its name
+pub record StandsOther (file : File) (image : Image) : Type 0 where
   pub octets : List ℕ
-  pub named : file.name ≡ name
-  pub held : old file.name ≡ Some octets
+  pub held : image file.name ≡ Some octets
   pub other : octets ≢ file.octets
-  pub same : new ≡ old
 
--- what comes of an answer: it was published, or it stood there, or the run ends
-abbrev pub Settles : File → Image → Image → (Image → Type 0) → (Image → Type 0) → Result Bool BoxFault → Type 0
-Settles file old new before after (Ok true) = IsGained file old new before after
-Settles file old new before after (Ok false) = Stands file old new before after
-Settles file old new before after (Err Device) = IsWhole file old new
-Settles file old new before after (Err Memory) = IsWhole file old new
-Settles file old new before after (Err (Differs name)) = StandsOther file old new (string_bytes name)
+-- what an image holds under the name of a file: nothing, the file, or something else
+abbrev pub IsStanding : Image → File → Standing → Type 0
+IsStanding image file standing.Missing = image file.name ≡ None
+IsStanding image file standing.Equal = image file.name ≡ Some file.octets
+IsStanding image file standing.Other = StandsOther file image
+
+-- one that is missing is held behind the others, and one that stands is let go
+abbrev pub HoldsOne : Image → File → List File → List File → Type 0
+HoldsOne image file old new = ((image file.name ≡ None) × (new ≡ old ++ file ∷ [])) ⊎ ((image file.name ≡ Some file.octets) × (new ≡ old))
+
+-- nothing goes on where one differs
+abbrev pub HoldsNone : Image → File → BoxFault → Type 0
+HoldsNone image file Device = ⊥
+HoldsNone image file Memory = Unit {0}
+HoldsNone image file (Differs name) = (file.name ≡ string_bytes name) × StandsOther file image
+
+abbrev pub Holds : {T : Type 0} → Image → File → List File → List File → Result T BoxFault → Type 0
+Holds image file old new (Ok done) = HoldsOne image file old new
+Holds image file old new (Err fault) = HoldsNone image file fault
 
 -- a stop leaves what is held, and nothing else
 abbrev pub LeavesHeld : Image → (Image → Type 0) → Type 0
@@ -123,6 +155,50 @@ AnswersSofar course names news answers =
     course.known ≡ true → (before : Box) → AreBooksOf course.books before
     → (after : Box) × AreBooksOf news after × AnswersFiles (map (file_of course.inbox) names) before after answers
 
+-- the files that an image holds nothing of, in their order
+abbrev pub missing_files : Image → List File → List File
+missing_files image files = filter (λ (file : File). is_none (image file.name)) files
+
+-- The answers to these files are known. What stood of them in the outbox is equal, and these are missing.
+pub record HasCompared (course : Course) (names : List MessageName) (news : Books) (missing : List File) : Type 0 where
+  pub answers : List File
+  pub named : map (λ (answer : File). answer.name) answers ≡ map answers_name names
+  pub equal : AreEqual course.start answers
+  pub missing_are : missing ≡ missing_files course.start answers
+  pub answered : AnswersSofar course names news answers
+
+-- The answers to the first files are known, and then the comparison ended.
+pub record HasBroken (course : Course) (names : List MessageName) (fault : BoxFault) : Type 0 where
+  pub answers : List File
+  pub count : ℕ
+  pub few : count ≤ length names
+  pub breaks : IsBreak course.start answers fault
+  pub answered : course.known ≡ true → (before : Box) → AreBooksOf course.books before
+      → (after : Box) × AnswersFiles (map (file_of course.inbox) (take count names)) before after answers
+
+-- These files were published, one after another.
+pub record HasPublished (start : Image) (files : List File) (first : ℕ) (now : Image) (last : ℕ) (exact : Type 0) (past since : ℕ → Image → Type 0) (may_leave : Image → Type 0) : Type 0 where
+  pub held : AreSame now (with_files start files)
+  pub stops : exact → GoesOn first last past since (IsBeginning start files) × LeavesHeld now may_leave
+
+-- some of them, the first, or the next one, and no more: then it ended
+pub record HasPublishedSome (start : Image) (files : List File) (first : ℕ) (now : Image) (last : ℕ) (exact : Type 0) (past since : ℕ → Image → Type 0) : Type 0 where
+  pub left : IsBeginning start files now
+  pub stops : exact → GoesOn first last past since (IsBeginning start files)
+
+-- What a comparison found of these messages.
+pub record HasFound (course : Course) (names : List MessageName) (news : Books) (found : Comparison) : Type 0 where
+  pub answers : List File
+  pub named : map (λ (answer : File). answer.name) answers ≡ map answers_name names
+  pub is : IsComparison course.start answers found.files found.missing (map string_bytes found.differing.items)
+  pub answered : AnswersSofar course names news answers
+
+-- what it finds of one file more
+pub record FindsMore (image : Image) (file : File) (old new : Comparison) : Type 0 where
+  pub files : new.files ≡ old.files + 1
+  pub missing : new.missing ≡ old.missing + (if is_none (image file.name) then 1 else 0)
+  pub differing : map string_bytes new.differing.items ≡ map string_bytes old.differing.items ++ names_differing image (file ∷ [])
+
 -- All these files were answered: the outbox holds what it held and the answers, and a stop leaves that, and might have left a beginning of it.
 pub record HasAnswered (course : Course) (names : List MessageName) (news : Books) (now : Image) (last : ℕ) (exact : Type 0) (past since : ℕ → Image → Type 0) (may_leave : Image → Type 0) (report : BoxReport) : Type 0 where
   pub answers : List File
@@ -134,17 +210,28 @@ pub record HasAnswered (course : Course) (names : List MessageName) (news : Book
   pub stops : exact → GoesOn course.first last past since (IsBeginning course.start answers) × LeavesHeld now may_leave
   pub answered : AnswersSofar course names news answers
 
--- The first files were answered, and then the run ended.
-pub record HasEnded (course : Course) (names : List MessageName) (now : Image) (last : ℕ) (exact : Type 0) (past since : ℕ → Image → Type 0) (fault : BoxFault) : Type 0 where
+-- nothing was published, and a stop leaves nothing else than before
+pub record IsQuiet (course : Course) (now : Image) (last : ℕ) (may_leave : Image → Type 0) (past since : ℕ → Image → Type 0) : Type 0 where
+  pub same : AreSame now course.start
+  pub time : GoesOn course.first last past since may_leave
+
+-- the outbox held nothing under the names of the answers to these files
+abbrev pub NoneStands : Image → List MessageName → Type 0
+NoneStands start names = (name : MessageName) → Contains names name → start (answers_name name) ≡ None
+
+-- The first files were answered, and then the run ended: either nothing was published, or all that stood in the outbox was compared.
+pub record HasEnded (course : Course) (names : List MessageName) (now : Image) (last : ℕ) (exact quiet : Type 0) (past since : ℕ → Image → Type 0) (fault : BoxFault) : Type 0 where
   pub answers : List File
   pub count : ℕ
   pub left : IsBeginning course.start answers now
   pub stops : exact → GoesOn course.first last past since (IsBeginning course.start answers)
   pub breaks : IsBreak course.start answers fault
+  pub beside : quiet ⊎ (AreEqual course.start answers × NoneStands course.start (drop count names))
   pub answered : course.known ≡ true → (before : Box) → AreBooksOf course.books before
       → (after : Box) × AnswersFiles (map (file_of course.inbox) (take count names)) before after answers
 
--- what comes of a run over these files
-abbrev pub RunsOver : Course → List MessageName → Books → Image → ℕ → Type 0 → (ℕ → Image → Type 0) → (ℕ → Image → Type 0) → (Image → Type 0) → Result BoxReport BoxFault → Type 0
-RunsOver course names news now last exact past since may_leave (Ok report) = HasAnswered course names news now last exact past since may_leave report
-RunsOver course names news now last exact past since may_leave (Err fault) = HasEnded course names now last exact past since fault
+-- what comes of a run over these files, whose outbox might leave this at first
+abbrev pub RunsOver : Course → List MessageName → Books → Image → ℕ → (Image → Type 0) → (ℕ → Image → Type 0) → (ℕ → Image → Type 0) → (Image → Type 0) → Result BoxReport BoxFault → Type 0
+RunsOver course names news now last before past since may_leave (Ok report) = HasAnswered course names news now last (LeavesHeld course.start before) past since may_leave report
+RunsOver course names news now last before past since may_leave (Err fault) =
+    HasEnded course names now last (LeavesHeld course.start before) (IsQuiet course now last before past since) past since fault

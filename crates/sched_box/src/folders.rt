@@ -1,13 +1,13 @@
 //! A box of folders: messages come as files of an inbox, and each of them is answered by a file of an outbox.
 
-ghost use Rattle.std.specs.Prelude.{◌≡◌, ◌⊎◌, ◌↔◌, ◌≤◌, ℕ, List, true, false, map, length, None, Some, IsNone, Contains, IfOk, IfErr, OnOk, OnErr, IsErrOf, IsTrue, string_bytes};
-ghost use Rattle.profile.specs.streams.Folders.{AreMessageFiles, AreNames, AreNamesSynced, Elapses, Image, IsMessageFile, LosesNamesAlone};
-ghost use Rattle.sched_devices.specs.Folder.{HasCause, IsKept};
+ghost use Rattle.std.specs.Prelude.{◌≡◌, ◌⊎◌, ◌↔◌, ◌≤◌, ◌+◌, ◌∷◌, [], ℕ, List, true, map, take, drop, length, None, Some, IsNone, Contains, IfOk, IfErr, OnOk, OnErr, IsErrOf, IsTrue, string_bytes};
+ghost use Rattle.profile.specs.streams.Folders.{AreMessageFiles, AreNames, AreNamesSynced, Elapses, File, Image, IsMessageFile, LosesNamesAlone};
+ghost use Rattle.sched_devices.specs.Folder.{HasCause, IsKept, StaysAsOpen};
 ghost use Rattle.sched_devices.specs.declared.folder.FolderFault.TheVariants as folder;
-ghost use Rattle.sched_box.specs.Boxes.{HasRisen, IsNoDifference, Runs};
+ghost use Rattle.sched_box.specs.Boxes.{Compares, HasRisen, IsNoDifference, Runs};
 ghost use Rattle.sched_box.specs.Config.{config_hosts};
-ghost use Rattle.sched_box.specs.Running.{AnswersMessage, AnswersOctets, AreApart, AreRising, GoesOn, IsGained, IsWhole, LeavesHeld, MayGain, RunsOver, Settles, answers_name, box_fault, file_of};
-ghost use Rattle.sched_box.specs.Telling.{AllPassed, FilesTold, IsNew, IsPassed, PassesOver, TellsFolder, TellsOctets};
+ghost use Rattle.sched_box.specs.Running.{AnswersMessage, AnswersOctets, AreApart, AreMessagesOf, AreNamedApart, AreRising, GoesOn, HasBroken, HasCompared, HasFound, HasPublished, HasPublishedSome, Holds, IsGained, IsLast, IsStanding, IsWhole, LeavesHeld, MayGain, NoneAmong, RunsOver, answers_name, box_fault, file_in, file_of};
+ghost use Rattle.sched_box.specs.Telling.{AllPassed, FilesTold, IsPassed, PassesOver, TellsFolder, TellsOctets};
 ghost use Rattle.sched_box.specs.declared.folders.BoxFault.TheVariants.{Device, Differs, Memory};
 
 use crate::books::Books;
@@ -79,6 +79,7 @@ fn sorted_names<F: Folder>(alloc: Global, place: &mut F) -> Result<Vec<String>, 
     ensures names { IfOk result (λ names. F.is_known place.old ≡ true → AreNames (F.image place.old) (map string_bytes names.items)) }
     ensures rising { IfOk result (λ names. AreRising (map string_bytes names.items)) }
     ensures kept { IsKept F.is_known F.image F.temporary F.may_leave place.old place.new }
+    ensures still { StaysAsOpen F.may_leave place.old place.new }
     ensures time { Elapses (F.moment place.old) (F.moment place.new) (F.left_since place.old) (F.left_since place.new) (F.may_leave place.new) }
     ensures not_missing { IsErrOf result folder.Missing → ⊥ }
     ensures not_existing { IsErrOf result folder.Exists → ⊥ }
@@ -131,6 +132,7 @@ fn message_files<I: Folder, J: Journal>(
     ensures messages { IfOk result (λ files. I.is_known inbox.old ≡ true → AreMessageFiles (I.image inbox.old) (map (file_of (I.image inbox.old)) files.items)) }
     ensures apart { IfOk result (λ files. AreApart files.items) }
     ensures kept { IsKept I.is_known I.image I.temporary I.may_leave inbox.old inbox.new }
+    ensures still { StaysAsOpen I.may_leave inbox.old inbox.new }
     ensures not_missing { IsErrOf result folder.Missing → ⊥ }
     ensures not_existing { IsErrOf result folder.Exists → ⊥ }
     ensures cause { HasCause (I.failed inbox.old) (I.failed inbox.new) (IsErrOf result folder.Device) }
@@ -187,6 +189,7 @@ fn answers_of<I: Folder, J: Journal>(
     ensures tells { IfOk result (λ answers. I.is_known inbox.old ≡ true → TellsOctets J.tells journal.old journal.new file.now.moment (file_of (I.image inbox.old) file.now).octets books.old books.new answers.items) }
     ensures no_difference { IfErr result IsNoDifference }
     ensures kept { IsKept I.is_known I.image I.temporary I.may_leave inbox.old inbox.new }
+    ensures still { StaysAsOpen I.may_leave inbox.old inbox.new }
     ensures later { I.failed inbox.old ≤ I.failed inbox.new }
     ensures cause { IsErrOf result Device → HasRisen (I.failed inbox.old) (I.failed inbox.new) }
     ensures told { (IsErrOf result Device → ⊥) → I.failed inbox.new ≡ I.failed inbox.old }
@@ -226,56 +229,115 @@ fn answers_to<J: Journal>(
     }
 }
 
-/// Has the answers to a message stand in the outbox: where a file of their name is there it is compared, else they are published.
-/// Whether they were published; `Differs` where another file is there, which is left as it is.
-fn settle<O: Folder>(
+/// An answer to a message: the name of its file in the outbox, and its octets.
+#[derive(Drop)]
+struct Answer {
+    name: String,
+    octets: Vec<u8>,
+}
+
+/// What stands in the outbox under the name of an answer.
+#[derive(Clone, Copy, PartialEq, Eq)]
+enum Standing {
+    /// Nothing.
+    Missing,
+    /// The answer.
+    Equal,
+    /// Something else.
+    Other,
+}
+
+/// An answer, and what stands under its name.
+#[derive(Drop)]
+struct Compared {
+    answer: Answer,
+    standing: Standing,
+}
+
+/// Answers a message of the inbox, and looks what stands in the outbox under the name of the answers. The journal is told of it first.
+fn compare_file<I: Folder, O: Folder, J: Journal>(
     alloc: Global,
+    inbox: &mut I,
     outbox: &mut O,
-    theirs: &[String],
+    books: &mut Books,
     file: &MessageName,
-    answers: &[u8],
-) -> Result<bool, BoxFault>
+    theirs: &[String],
+    journal: &mut J,
+) -> Result<Compared, BoxFault>
+    requires message { I.is_known inbox.old ≡ true → IsMessageFile (I.image inbox.old) (file_of (I.image inbox.old) file.now) }
     requires rising { AreRising (map string_bytes theirs.now) }
     requires there { O.is_known outbox.old ≡ true → Contains (map string_bytes theirs.now) (answers_name file.now) → IsNone (O.image outbox.old (answers_name file.now)) → ⊥ }
     requires free { O.is_known outbox.old ≡ true → (Contains (map string_bytes theirs.now) (answers_name file.now) → ⊥) → O.image outbox.old (answers_name file.now) ≡ None }
-    ensures settles { O.is_known outbox.old ≡ true → Settles (record { name = answers_name file.now; octets = answers.now }) (O.image outbox.old) (O.image outbox.new) (O.may_leave outbox.old) (O.may_leave outbox.new) result }
-    ensures time { O.is_known outbox.old ≡ true → GoesOn (O.moment outbox.old) (O.moment outbox.new) (O.left_since outbox.old) (O.left_since outbox.new)
-        (MayGain (record { name = answers_name file.now; octets = answers.now }) (O.may_leave outbox.old)) }
-    ensures goes_on { O.is_known outbox.old ≡ true → LosesNamesAlone (O.image outbox.old) (O.may_leave outbox.old) → LosesNamesAlone (O.image outbox.new) (O.may_leave outbox.new) }
-    ensures known { O.is_known outbox.new ≡ O.is_known outbox.old }
-    ensures later { O.failed outbox.old ≤ O.failed outbox.new }
-    ensures cause { IsErrOf result Device → HasRisen (O.failed outbox.old) (O.failed outbox.new) }
-    ensures told { (IsErrOf result Device → ⊥) → O.failed outbox.new ≡ O.failed outbox.old }
+    ensures answers { IfOk result (λ compared. I.is_known inbox.old ≡ true → AnswersMessage (I.image inbox.old) file.now books.old books.new (file_in compared.answer).octets) }
+    ensures named { IfOk result (λ compared. (file_in compared.answer).name ≡ answers_name file.now) }
+    ensures stands { IfOk result (λ compared. O.is_known outbox.old ≡ true → IsStanding (O.image outbox.old) (file_in compared.answer) compared.standing) }
+    ensures tells { OnOk result (I.is_known inbox.old ≡ true → FilesTold J.begins J.tells (I.image inbox.old) (map string_bytes theirs.now) journal.old (file.now ∷ []) books.old books.new journal.new) }
+    ensures no_difference { IfErr result IsNoDifference }
+    ensures kept { IsKept I.is_known I.image I.temporary I.may_leave inbox.old inbox.new }
+    ensures still { StaysAsOpen I.may_leave inbox.old inbox.new }
+    ensures out_kept { IsKept O.is_known O.image O.temporary O.may_leave outbox.old outbox.new }
+    ensures out_still { StaysAsOpen O.may_leave outbox.old outbox.new }
+    ensures time { GoesOn (O.moment outbox.old) (O.moment outbox.new) (O.left_since outbox.old) (O.left_since outbox.new) (O.may_leave outbox.old) }
+    ensures later { (I.failed inbox.old ≤ I.failed inbox.new) × (O.failed outbox.old ≤ O.failed outbox.new) }
+    ensures cause { IsErrOf result Device → HasRisen (I.failed inbox.old) (I.failed inbox.new) ⊎ HasRisen (O.failed outbox.old) (O.failed outbox.new) }
+    ensures told { (IsErrOf result Device → ⊥) → (I.failed inbox.new ≡ I.failed inbox.old) × (O.failed outbox.new ≡ O.failed outbox.old) }
 {
     let name = file.answer_name(alloc)?;
-    if !is_among(theirs, name.as_str()) {
-        publish_answers(outbox, name.as_str(), answers)?;
-        return Ok(true);
-    }
-    if stands_there(alloc, outbox, name.as_str(), answers)? {
-        Ok(false)
-    } else {
-        Err(BoxFault::Differs(name))
-    }
+    let is_there = is_among(theirs, name.as_str());
+    journal.begin(file.name(), !is_there);
+    let octets = answers_of(alloc, inbox, books, file, journal)?;
+    let standing = standing_of(alloc, outbox, name.as_str(), &octets, is_there)?;
+    Ok(Compared {
+        answer: Answer { name, octets },
+        standing,
+    })
 }
 
-/// Whether these octets are what the outbox holds under the name.
-fn stands_there<O: Folder>(
+/// What the outbox holds under a name, which is among its names or isn't: nothing, these octets or others.
+fn standing_of<O: Folder>(
     alloc: Global,
     outbox: &mut O,
     name: &str,
-    answers: &[u8],
-) -> Result<bool, FolderFault>
-    requires { O.is_known outbox.old ≡ true → IsNone (O.image outbox.old name.now) → ⊥ }
-    ensures equal { IfOk result (λ same. O.is_known outbox.old ≡ true → (octets : List ℕ) × (O.image outbox.old name.now ≡ Some octets) × (IsTrue same ↔ octets ≡ answers.now)) }
+    octets: &[u8],
+    is_there: bool,
+) -> Result<Standing, FolderFault>
+    requires there { O.is_known outbox.old ≡ true → IsTrue is_there → IsNone (O.image outbox.old name.now) → ⊥ }
+    requires free { O.is_known outbox.old ≡ true → (IsTrue is_there → ⊥) → O.image outbox.old name.now ≡ None }
+    ensures stands { IfOk result (λ standing. O.is_known outbox.old ≡ true → IsStanding (O.image outbox.old) (record { name = name.now; octets = octets.now }) standing) }
     ensures kept { IsKept O.is_known O.image O.temporary O.may_leave outbox.old outbox.new }
-    ensures time { Elapses (O.moment outbox.old) (O.moment outbox.new) (O.left_since outbox.old) (O.left_since outbox.new) (O.may_leave outbox.new) }
+    ensures still { StaysAsOpen O.may_leave outbox.old outbox.new }
+    ensures time { GoesOn (O.moment outbox.old) (O.moment outbox.new) (O.left_since outbox.old) (O.left_since outbox.new) (O.may_leave outbox.old) }
     ensures not_missing { IsErrOf result folder.Missing → ⊥ }
     ensures not_existing { IsErrOf result folder.Exists → ⊥ }
     ensures cause { HasCause (O.failed outbox.old) (O.failed outbox.new) (IsErrOf result folder.Device) }
 {
-    let octets = outbox.read(alloc, name)?;
-    Ok(octets.as_slice() == answers)
+    if !is_there {
+        return Ok(Standing::Missing);
+    }
+    let held = outbox.read(alloc, name)?;
+    if held.as_slice() == octets {
+        Ok(Standing::Equal)
+    } else {
+        Ok(Standing::Other)
+    }
+}
+
+/// Holds an answer that is missing behind the others. One that stands is let go; `Differs` where something else stands.
+fn hold(held: &mut Vec<Answer>, compared: Compared) -> Result<(), BoxFault>
+    ensures few { length held.new.items ≤ length held.old.items + 1 }
+    ensures no_device { IsErrOf result Device → ⊥ }
+    ensures holds { (image : Image) → IsStanding image (file_in compared.answer) compared.standing
+        → Holds image (file_in compared.answer) (map file_in held.old.items) (map file_in held.new.items) result }
+{
+    let answer = compared.answer;
+    match compared.standing {
+        Standing::Missing => {
+            held.push(answer)?;
+            Ok(())
+        }
+        Standing::Equal => Ok(()),
+        Standing::Other => Err(BoxFault::Differs(answer.name)),
+    }
 }
 
 /// Writes the temporary file, and syncs it.
@@ -317,7 +379,94 @@ fn publish_answers<O: Folder>(outbox: &mut O, name: &str, answers: &[u8]) -> Res
     outbox.sync_dir()
 }
 
-/// Answers these messages of the inbox, in turn.
+/// Compares the answers to these messages with what stands of them in the outbox, and holds those that are missing. `Differs` at the first that differs.
+fn hold_missing<I: Folder, O: Folder, J: Journal>(
+    alloc: Global,
+    inbox: &mut I,
+    outbox: &mut O,
+    books: &mut Books,
+    files: &[MessageName],
+    theirs: &[String],
+    journal: &mut J,
+) -> Result<Vec<Answer>, BoxFault>
+    requires messages { I.is_known inbox.old ≡ true → AreMessagesOf (I.image inbox.old) files.now }
+    requires rising { AreRising (map string_bytes theirs.now) }
+    requires names { O.is_known outbox.old ≡ true → AreNames (O.image outbox.old) (map string_bytes theirs.now) }
+    ensures compares { O.is_known outbox.old ≡ true → IfOk result (λ held.
+        HasCompared (record { known = I.is_known inbox.old; inbox = I.image inbox.old; books = books.old; start = O.image outbox.old; first = O.moment outbox.old }) files.now books.new (map file_in held.items)) }
+    ensures breaks { O.is_known outbox.old ≡ true → IfErr result (HasBroken (record { known = I.is_known inbox.old; inbox = I.image inbox.old; books = books.old; start = O.image outbox.old; first = O.moment outbox.old }) files.now) }
+    ensures few { IfOk result (λ held. length held.items ≤ length files.now) }
+    ensures kept { IsKept I.is_known I.image I.temporary I.may_leave inbox.old inbox.new }
+    ensures out_kept { IsKept O.is_known O.image O.temporary O.may_leave outbox.old outbox.new }
+    ensures time { GoesOn (O.moment outbox.old) (O.moment outbox.new) (O.left_since outbox.old) (O.left_since outbox.new) (O.may_leave outbox.old) }
+    ensures later { (I.failed inbox.old ≤ I.failed inbox.new) × (O.failed outbox.old ≤ O.failed outbox.new) }
+    ensures cause { IsErrOf result Device → HasRisen (I.failed inbox.old) (I.failed inbox.new) ⊎ HasRisen (O.failed outbox.old) (O.failed outbox.new) }
+    ensures told { (IsErrOf result Device → ⊥) → (I.failed inbox.new ≡ I.failed inbox.old) × (O.failed outbox.new ≡ O.failed outbox.old) }
+    ensures tells { OnOk result (I.is_known inbox.old ≡ true → FilesTold J.begins J.tells (I.image inbox.old) (map string_bytes theirs.now) journal.old files.now books.old books.new journal.new) }
+{
+    let mut held = Vec::new(alloc);
+    for file in files {
+        let compared = compare_file(alloc, inbox, outbox, books, file, theirs, journal)?;
+        hold(&mut held, compared)?;
+    }
+    Ok(held)
+}
+
+/// Publishes answers of which nothing stands yet, in turn.
+fn publish_all<O: Folder>(outbox: &mut O, answers: &[Answer]) -> Result<(), FolderFault>
+    requires free { O.is_known outbox.old ≡ true → (file : File) → Contains (map file_in answers.now) file → O.image outbox.old file.name ≡ None }
+    requires apart { O.is_known outbox.old ≡ true → AreNamedApart answers.now }
+    ensures published { OnOk result (O.is_known outbox.old ≡ true → HasPublished (O.image outbox.old) (map file_in answers.now) (O.moment outbox.old) (O.image outbox.new) (O.moment outbox.new)
+        (LeavesHeld (O.image outbox.old) (O.may_leave outbox.old)) (O.left_since outbox.old) (O.left_since outbox.new) (O.may_leave outbox.new)) }
+    ensures ended { OnErr result (O.is_known outbox.old ≡ true → HasPublishedSome (O.image outbox.old) (map file_in answers.now) (O.moment outbox.old) (O.image outbox.new) (O.moment outbox.new)
+        (LeavesHeld (O.image outbox.old) (O.may_leave outbox.old)) (O.left_since outbox.old) (O.left_since outbox.new)) }
+    ensures goes_on { O.is_known outbox.old ≡ true → LosesNamesAlone (O.image outbox.old) (O.may_leave outbox.old) → LosesNamesAlone (O.image outbox.new) (O.may_leave outbox.new) }
+    ensures known { O.is_known outbox.new ≡ O.is_known outbox.old }
+    ensures not_missing { IsErrOf result folder.Missing → ⊥ }
+    ensures not_existing { IsErrOf result folder.Exists → ⊥ }
+    ensures later { O.failed outbox.old ≤ O.failed outbox.new }
+    ensures cause { IsErrOf result folder.Device → HasRisen (O.failed outbox.old) (O.failed outbox.new) }
+    ensures told { (IsErrOf result folder.Device → ⊥) → O.failed outbox.new ≡ O.failed outbox.old }
+{
+    for answer in answers {
+        publish_answers(outbox, answer.name.as_str(), &answer.octets)?;
+    }
+    Ok(())
+}
+
+/// Whether answers to a message stand in the outbox.
+fn is_answered(alloc: Global, theirs: &[String], file: &MessageName) -> Result<bool, AllocError>
+    requires { AreRising (map string_bytes theirs.now) }
+    ensures { IfOk result (λ stands. IsTrue stands ↔ Contains (map string_bytes theirs.now) (answers_name file.now)) }
+{
+    let name = file.answer_name(alloc)?;
+    let stands = is_among(theirs, name.as_str());
+    Ok(stands)
+}
+
+/// How many files there are up to the last one whose answers stand in the outbox: to those behind it nothing stands.
+fn place_behind_last(
+    alloc: Global,
+    files: &[MessageName],
+    theirs: &[String],
+) -> Result<usize, AllocError>
+    requires { AreRising (map string_bytes theirs.now) }
+    ensures within { IfOk result (λ place. place ≤ length files.now) }
+    ensures behind { IfOk result (λ place. NoneAmong (map string_bytes theirs.now) (drop place files.now)) }
+    ensures last { IfOk result (λ place. (place ≡ 0) ⊎ IsLast (map string_bytes theirs.now) (take place files.now)) }
+{
+    let mut place = files.len();
+    while place > 0 {
+        if is_answered(alloc, theirs, &files[place - 1])? {
+            return Ok(place);
+        }
+        place -= 1;
+    }
+    Ok(place)
+}
+
+/// Answers these messages of the inbox. Up to the last one whose answers stand in the outbox all are compared, and those that are missing are held,
+/// before one is published; from there on each is published before the next message is read.
 fn answer_all<I: Folder, O: Folder, J: Journal>(
     alloc: Global,
     inbox: &mut I,
@@ -332,7 +481,7 @@ fn answer_all<I: Folder, O: Folder, J: Journal>(
     requires rising { AreRising (map string_bytes theirs.now) }
     requires names { O.is_known outbox.old ≡ true → AreNames (O.image outbox.old) (map string_bytes theirs.now) }
     ensures runs { O.is_known outbox.old ≡ true → RunsOver (record { known = I.is_known inbox.old; inbox = I.image inbox.old; books = books.old; start = O.image outbox.old; first = O.moment outbox.old })
-        files.now books.new (O.image outbox.new) (O.moment outbox.new) (LeavesHeld (O.image outbox.old) (O.may_leave outbox.old)) (O.left_since outbox.old) (O.left_since outbox.new) (O.may_leave outbox.new) result }
+        files.now books.new (O.image outbox.new) (O.moment outbox.new) (O.may_leave outbox.old) (O.left_since outbox.old) (O.left_since outbox.new) (O.may_leave outbox.new) result }
     ensures goes_on { O.is_known outbox.old ≡ true → LosesNamesAlone (O.image outbox.old) (O.may_leave outbox.old) → LosesNamesAlone (O.image outbox.new) (O.may_leave outbox.new) }
     ensures kept { IsKept I.is_known I.image I.temporary I.may_leave inbox.old inbox.new }
     ensures later { (I.failed inbox.old ≤ I.failed inbox.new) × (O.failed outbox.old ≤ O.failed outbox.new) }
@@ -340,52 +489,55 @@ fn answer_all<I: Folder, O: Folder, J: Journal>(
     ensures told { (IsErrOf result Device → ⊥) → (I.failed inbox.new ≡ I.failed inbox.old) × (O.failed outbox.new ≡ O.failed outbox.old) }
     ensures tells { OnOk result (I.is_known inbox.old ≡ true → FilesTold J.begins J.tells (I.image inbox.old) (map string_bytes theirs.now) journal.old files.now books.old books.new journal.new) }
 {
-    let mut report = BoxReport {
-        files: 0,
-        written: 0,
-    };
-    for file in files {
-        let has_none = is_unanswered(alloc, theirs, file)?;
-        journal.begin(file.name(), has_none);
-        let answers = answers_of(alloc, inbox, books, file, journal)?;
-        let is_new = settle(alloc, outbox, theirs, file, &answers)?;
-        report = report.with_file(is_new);
+    let place = place_behind_last(alloc, files, theirs)?;
+    let (first, rest) = files.split_at(place);
+    let held = hold_missing(alloc, inbox, outbox, books, first, theirs, journal)?;
+    publish_all(outbox, &held)?;
+    let mut report = BoxReport::of(first, &held);
+    for file in rest {
+        let compared = compare_file(alloc, inbox, outbox, books, file, theirs, journal)?;
+        let answer = compared.answer;
+        publish_answers(outbox, answer.name.as_str(), &answer.octets)?;
+        report = report.with_file();
     }
     Ok(report)
 }
 
-/// Whether the outbox hasn't the answers to a message yet.
-fn is_unanswered(alloc: Global, theirs: &[String], file: &MessageName) -> Result<bool, AllocError>
-    requires { AreRising (map string_bytes theirs.now) }
-    ensures { IfOk result (IsNew (map string_bytes theirs.now) file.now) }
-{
-    let name = file.answer_name(alloc)?;
-    let is_there = is_among(theirs, name.as_str());
-    Ok(!is_there)
-}
-
 impl BoxReport {
-    ghost use Rattle.std.specs.Prelude.{◌≡◌, ◌+◌, ◌<◌, ◌^◌, if◌then◌else◌};
+    ghost use Rattle.std.specs.Prelude.{◌≡◌, ◌+◌, ◌<◌, ◌^◌, length};
 
-    /// One more file was answered.
-    fn with_file(self, is_new: bool) -> BoxReport
+    /// These files were answered, and these of their answers published.
+    fn of(files: &[MessageName], published: &[Answer]) -> BoxReport
+        ensures files { result.files ≡ length files.now }
+        ensures written { result.written ≡ length published.now }
+    {
+        BoxReport {
+            files: files.len() as u64,
+            written: published.len() as u64,
+        }
+    }
+
+    /// One more file was answered, and its answers published.
+    fn with_file(self) -> BoxReport
         requires files { self.files + 1 < 2 ^ 64 }
         requires written { self.written + 1 < 2 ^ 64 }
         ensures files { result.files ≡ self.files + 1 }
-        ensures written { result.written ≡ self.written + (if is_new then 1 else 0) }
+        ensures written { result.written ≡ self.written + 1 }
     {
         BoxReport {
             files: self.files + 1,
-            written: self.written + u64::from(is_new),
+            written: self.written + 1,
         }
     }
 }
 
 /// Answers each file of the inbox, in the byte order of their names, by a file of the same stem in the outbox. Files of other names are left alone. All
-/// books are kept over all files, from empty ones. An answer that is there is compared, and left as it is; one that isn't is written, synced and
-/// published, and the folder synced, before the next file is read. So a stop at any moment leaves whole files, the answers to the first of the files,
-/// and a later run goes on from there, whether the machine stopped or a call failed. `Device` comes only where a folder has failed, and wherever one has.
-/// `Differs` comes at the first answer that differs from what the outbox holds under its name: nothing is published after it. The inbox stays as it is.
+/// books are kept over all files, from empty ones. An answer that is there is compared, and left as it is. One that isn't is written, synced and
+/// published, and the folder synced, before the next file is read; but as long as an answer to a file of the inbox stands there that wasn't compared
+/// yet, it is held in memory, and published behind the last of those. So no answer goes out beside one that differs. A stop at any moment leaves whole
+/// files, the answers to the first of the files, and a later run goes on from there, whether the machine stopped or a call failed. `Device` comes only
+/// where a folder has failed, and wherever one has. `Differs` comes at the first answer that differs from what the outbox holds under its name: the
+/// outbox is as it was found then. The inbox stays as it is.
 pub fn run_box<I: Folder, O: Folder>(
     alloc: Global,
     inbox: &mut I,
@@ -394,6 +546,7 @@ pub fn run_box<I: Folder, O: Folder>(
 ) -> Result<BoxReport, BoxFault>
     ensures cause { IsErrOf result Device → HasRisen (I.failed inbox.old) (I.failed inbox.new) ⊎ HasRisen (O.failed outbox.old) (O.failed outbox.new) }
     ensures told { (IsErrOf result Device → ⊥) → (I.failed inbox.new ≡ I.failed inbox.old) × (O.failed outbox.new ≡ O.failed outbox.old) }
+    ensures later { (I.failed inbox.old ≤ I.failed inbox.new) × (O.failed outbox.old ≤ O.failed outbox.new) }
     ensures kept { IsKept I.is_known I.image I.temporary I.may_leave inbox.old inbox.new }
     ensures goes_on { O.is_known outbox.old ≡ true → LosesNamesAlone (O.image outbox.old) (O.may_leave outbox.old) → LosesNamesAlone (O.image outbox.new) (O.may_leave outbox.new) }
     ensures runs { I.is_known inbox.old ≡ true → O.is_known outbox.old ≡ true → LosesNamesAlone (O.image outbox.old) (O.may_leave outbox.old)
@@ -414,6 +567,7 @@ pub fn run_box_telling<I: Folder, O: Folder, J: Journal>(
 ) -> Result<BoxReport, BoxFault>
     ensures cause { IsErrOf result Device → HasRisen (I.failed inbox.old) (I.failed inbox.new) ⊎ HasRisen (O.failed outbox.old) (O.failed outbox.new) }
     ensures told { (IsErrOf result Device → ⊥) → (I.failed inbox.new ≡ I.failed inbox.old) × (O.failed outbox.new ≡ O.failed outbox.old) }
+    ensures later { (I.failed inbox.old ≤ I.failed inbox.new) × (O.failed outbox.old ≤ O.failed outbox.new) }
     ensures kept { IsKept I.is_known I.image I.temporary I.may_leave inbox.old inbox.new }
     ensures goes_on { O.is_known outbox.old ≡ true → LosesNamesAlone (O.image outbox.old) (O.may_leave outbox.old) → LosesNamesAlone (O.image outbox.new) (O.may_leave outbox.new) }
     ensures runs { I.is_known inbox.old ≡ true → O.is_known outbox.old ≡ true → LosesNamesAlone (O.image outbox.old) (O.may_leave outbox.old)
@@ -427,4 +581,94 @@ pub fn run_box_telling<I: Folder, O: Folder, J: Journal>(
     let theirs = sorted_names(alloc, outbox)?;
     let mut books = Books::new(alloc, config)?;
     answer_all(alloc, inbox, outbox, &mut books, &files, &theirs, journal)
+}
+
+/// What a comparison of a box's folders found: how many files there are, how many answers are missing, and the names of those that differ.
+#[derive(Drop)]
+pub struct Comparison {
+    pub files: u64,
+    pub missing: u64,
+    pub differing: Vec<String>,
+}
+
+/// Compares the answer to each file of the inbox with what the outbox holds under its name, as `run_box` would, and goes on behind one that differs.
+/// It only lists and reads both folders, so it runs over folders that may not be written. It never ends with `Differs`.
+pub fn compare_box<I: Folder, O: Folder>(
+    alloc: Global,
+    inbox: &mut I,
+    outbox: &mut O,
+    config: &Config,
+) -> Result<Comparison, BoxFault>
+    ensures cause { IsErrOf result Device → HasRisen (I.failed inbox.old) (I.failed inbox.new) ⊎ HasRisen (O.failed outbox.old) (O.failed outbox.new) }
+    ensures told { (IsErrOf result Device → ⊥) → (I.failed inbox.new ≡ I.failed inbox.old) × (O.failed outbox.new ≡ O.failed outbox.old) }
+    ensures later { (I.failed inbox.old ≤ I.failed inbox.new) × (O.failed outbox.old ≤ O.failed outbox.new) }
+    ensures kept { IsKept I.is_known I.image I.temporary I.may_leave inbox.old inbox.new }
+    ensures still { StaysAsOpen I.may_leave inbox.old inbox.new }
+    ensures out_kept { IsKept O.is_known O.image O.temporary O.may_leave outbox.old outbox.new }
+    ensures out_still { StaysAsOpen O.may_leave outbox.old outbox.new }
+    ensures compares { I.is_known inbox.old ≡ true → O.is_known outbox.old ≡ true → Compares (I.image inbox.old) (config_hosts config.now) (O.image outbox.old) result }
+{
+    let files = message_files(alloc, inbox, &mut Nobody)?;
+    let theirs = sorted_names(alloc, outbox)?;
+    let mut books = Books::new(alloc, config)?;
+    compare_all(alloc, inbox, outbox, &mut books, &files, &theirs)
+}
+
+/// Compares the answers to these messages with what stands of them in the outbox.
+fn compare_all<I: Folder, O: Folder>(
+    alloc: Global,
+    inbox: &mut I,
+    outbox: &mut O,
+    books: &mut Books,
+    files: &[MessageName],
+    theirs: &[String],
+) -> Result<Comparison, BoxFault>
+    requires messages { I.is_known inbox.old ≡ true → AreMessageFiles (I.image inbox.old) (map (file_of (I.image inbox.old)) files.now) }
+    requires rising { AreRising (map string_bytes theirs.now) }
+    requires names { O.is_known outbox.old ≡ true → AreNames (O.image outbox.old) (map string_bytes theirs.now) }
+    ensures compares { O.is_known outbox.old ≡ true → IfOk result (λ found.
+        HasFound (record { known = I.is_known inbox.old; inbox = I.image inbox.old; books = books.old; start = O.image outbox.old; first = O.moment outbox.old }) files.now books.new found) }
+    ensures no_difference { IfErr result IsNoDifference }
+    ensures kept { IsKept I.is_known I.image I.temporary I.may_leave inbox.old inbox.new }
+    ensures still { StaysAsOpen I.may_leave inbox.old inbox.new }
+    ensures out_kept { IsKept O.is_known O.image O.temporary O.may_leave outbox.old outbox.new }
+    ensures out_still { StaysAsOpen O.may_leave outbox.old outbox.new }
+    ensures later { (I.failed inbox.old ≤ I.failed inbox.new) × (O.failed outbox.old ≤ O.failed outbox.new) }
+    ensures cause { IsErrOf result Device → HasRisen (I.failed inbox.old) (I.failed inbox.new) ⊎ HasRisen (O.failed outbox.old) (O.failed outbox.new) }
+    ensures told { (IsErrOf result Device → ⊥) → (I.failed inbox.new ≡ I.failed inbox.old) × (O.failed outbox.new ≡ O.failed outbox.old) }
+{
+    let mut found = Comparison {
+        files: 0,
+        missing: 0,
+        differing: Vec::new(alloc),
+    };
+    for file in files {
+        let compared = compare_file(alloc, inbox, outbox, books, file, theirs, &mut Nobody)?;
+        found.add(compared)?;
+    }
+    Ok(found)
+}
+
+impl Comparison {
+    ghost use Rattle.std.specs.Prelude.{◌≡◌, ◌+◌, ◌<◌, ◌≤◌, ◌^◌, OnOk};
+    ghost use Rattle.profile.specs.streams.Folders.{Image};
+    ghost use Rattle.sched_box.specs.Running.{FindsMore, IsStanding, file_in};
+
+    /// One more file was compared.
+    fn add(&mut self, compared: Compared) -> Result<(), AllocError>
+        requires files { self.old.files + 1 < 2 ^ 64 }
+        requires missing { self.old.missing + 1 < 2 ^ 64 }
+        ensures counted { OnOk result (self.new.files ≡ self.old.files + 1) }
+        ensures few { OnOk result (self.new.missing ≤ self.old.missing + 1) }
+        ensures finds { OnOk result ((image : Image) → IsStanding image (file_in compared.answer) compared.standing → FindsMore image (file_in compared.answer) self.old self.new) }
+    {
+        let answer = compared.answer;
+        self.files += 1;
+        match compared.standing {
+            Standing::Missing => self.missing += 1,
+            Standing::Equal => {}
+            Standing::Other => self.differing.push(answer.name)?,
+        }
+        Ok(())
+    }
 }

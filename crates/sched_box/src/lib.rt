@@ -20,7 +20,7 @@ mod settings;
 pub use config::Config;
 pub use fault::{ServeFault, StreamFault};
 pub use file_names::MessageName;
-pub use folders::{BoxFault, BoxReport, run_box, run_box_telling};
+pub use folders::{BoxFault, BoxReport, Comparison, compare_box, run_box, run_box_telling};
 pub use journal::{Fate, Journal, Nobody};
 pub use meetings::shown_meetings;
 pub use preamble::read_preamble;

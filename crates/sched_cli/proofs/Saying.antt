@@ -10,6 +10,7 @@ use Rattle.ical_lines.specs.Fault.{RefusesBy}
 use Rattle.ical_lines.specs.declared.fault.Fault.{Fault}
 use Rattle.ical_lines.specs.declared.fault.Fault.TheVariants as lines
 use Rattle.sched_cli.specs.Commands.{SaysLine, IsStatusSaid, read_status, read_text, refused_text, write_text, write_status}
+use Rattle.sched_cli.specs.Running.{Writes}
 
 -- a beginning of these octets was written
 abbrev pub IsCut : Option (List ℕ) → Option (List ℕ) → List ℕ → Type 0
@@ -45,6 +46,27 @@ pub put_says : {X : Type 0} (a b c : Option (List ℕ)) (failed lost : Bool) (li
 put_says a b c failed lost line done piece (Ok x) is before more stops l = inl (subst (Appends a c) (sym is) (Appends-trans a b c done piece before more))
 put_says a b c failed lost line done piece (Err fault) is before more stops l =
     stopped_says a b c failed lost line done piece [] fault (is ∙ ap (λ (p : List ℕ). done ++ p) (sym (append-nil piece))) before stops l
+
+-- the same of a text of which it is told whether it was written whole
+pub stopped_writes : {X : Type 0} (a b c : Option (List ℕ)) (failed lost : Bool) (line done piece rest : List ℕ) (fault e : WriteFault) (r : Result X WriteFault) → r ≡ Err e → line ≡ done ++ (piece ++ rest) → Appends a b done
+    → StopsWriting b c failed piece fault → lost ≡ true → Writes line r a c lost
+stopped_writes {X} a b c failed lost line done piece rest fault e r ended is before stops l =
+    let P : Result X WriteFault → Type 0 = λ z. Writes line z a c lost in
+    subst P (sym ended) (l, cut_more a b c line done piece rest is before (stopped_cut b c failed piece fault stops))
+
+pub put_writes : {X : Type 0} (a b c : Option (List ℕ)) (failed lost : Bool) (line done piece : List ℕ) (r : Result X WriteFault) → line ≡ done ++ piece → Appends a b done
+    → OnOk r (Appends b c piece) → IfErr r (StopsWriting b c failed piece) → OnErr r (lost ≡ true) → Writes line r a c lost
+put_writes a b c failed lost line done piece (Ok x) is before more stops l = subst (Appends a c) (sym is) (Appends-trans a b c done piece before more)
+put_writes a b c failed lost line done piece (Err fault) is before more stops l =
+    (l, cut_more a b c line done piece [] (is ∙ ap (λ (p : List ℕ). done ++ p) (sym (append-nil piece))) before (stopped_cut b c failed piece fault stops))
+
+pub written_says : {X E : Type 0} (line : List ℕ) (r : Result X E) (a b : Option (List ℕ)) (lost : Bool) → Writes line r a b lost → SaysLine line a b lost
+written_says line (Ok x) a b lost w = inl w
+written_says line (Err e) a b lost w = inr w
+
+-- of a line of several texts one was cut, behind what was said whole
+pub cut_says : (a b c : Option (List ℕ)) (lost : Bool) (line done part rest : List ℕ) → line ≡ done ++ (part ++ rest) → Appends a b done → (lost ≡ true) × ((n : ℕ) × Appends b c (take n part)) → SaysLine line a c lost
+cut_says a b c lost line done part rest is before (l, cut) = inr (l, cut_more a b c line done part rest is before cut)
 
 -- what is said of a fault, and its status
 pub said_write : (status : ℕ) (fault : WriteFault) (a b : Option (List ℕ)) (lost : Bool) → status ≡ write_status fault → SaysLine (write_text fault) a b lost → IsStatusSaid status a b lost

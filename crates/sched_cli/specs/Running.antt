@@ -1,6 +1,8 @@
 -- What a run over folders says, and what it leaves.
-use Rattle.std.specs.Prelude.{◌≡◌, ◌⊎◌, ℕ, Bool, List, ◌++◌, codes, string_bytes, Option, Some, None, Result, Ok, Err}
-use Rattle.std.specs.Io.KnownBytes.{Keeps}
+use Rattle.std.specs.Prelude.{◌≡◌, ◌⊎◌, ℕ, Bool, true, List, [], ◌∷◌, ◌++◌, take, codes, decimal, String, string_bytes, Option, Some, None, Result, Ok, Err}
+use Rattle.std.specs.Io.KnownBytes.{Appends, Keeps}
+use Rattle.std.specs.List.{flat_map}
+use Rattle.std.specs.declared.alloc.Global.{Global}
 use Rattle.profile.specs.streams.Folders.{Image}
 use Rattle.profile.specs.streams.Reports.{Fate}
 use Rattle.profile.specs.streams.Streams.{Config, IsConfiguration}
@@ -8,6 +10,7 @@ use Rattle.sched_box.specs.declared.folders.BoxFault.{BoxFault}
 use Rattle.sched_box.specs.declared.folders.BoxFault.TheVariants.{Device, Differs, Memory}
 use Rattle.sched_box.specs.Telling.{TellsFolder}
 use Rattle.sched_box.specs.declared.folders.BoxReport.{BoxReport}
+use Rattle.sched_box.specs.declared.folders.Comparison.{Comparison}
 use Rattle.sched_devices.specs.declared.output.WriteFault.{WriteFault}
 use Rattle.sched_cli.specs.Commands.{SaysLine, device_text, memory_text, refused_text, write_status, write_text}
 
@@ -51,6 +54,43 @@ pub record RunsWith (status : ℕ) (config : List ℕ) (MayEnd : Config → Resu
   pub runs : MayEnd hosts ended
   pub status_is : status ≡ run_status ended
   pub said : SaysRun ended old new lost
+
+-- ---- a comparison alone
+
+-- a text was written whole; or, where what is written may be lost, a beginning of it
+abbrev pub Writes : {T E : Type 0} → List ℕ → Result T E → Option (List ℕ) → Option (List ℕ) → Bool → Type 0
+Writes text (Ok done) old new lost = Appends old new text
+Writes text (Err fault) old new lost = (lost ≡ true) × ((n : ℕ) × Appends old new (take n text))
+
+-- a line for each name that differs, and one with the counts
+abbrev pub counts_text : ℕ → ℕ → List ℕ
+counts_text files missing = (codes "roombox: files: " ++ decimal files) ++ ((codes ", missing answers: " ++ decimal missing) ++ codes "\n")
+
+abbrev pub found_text : Comparison → List ℕ
+found_text found = flat_map (λ (name : String Global). differs_text (string_bytes name)) found.differing.items ++ counts_text found.files found.missing
+
+-- 3 where an answer differs; one that is missing is no fault
+abbrev pub found_status : List (String Global) → ℕ
+found_status [] = 0
+found_status (name ∷ names) = 3
+
+abbrev pub comparison_status : Result Comparison BoxFault → ℕ
+comparison_status (Ok found) = found_status found.differing.items
+comparison_status (Err fault) = box_status fault
+
+abbrev pub SaysComparison : Result Comparison BoxFault → Option (List ℕ) → Option (List ℕ) → Bool → Type 0
+SaysComparison (Ok found) old new lost = SaysLine (found_text found) old new lost
+SaysComparison (Err fault) old new lost = SaysLine (box_text fault) old new lost
+
+-- the octets are the configuration of these hosts, a comparison of their box found this, this is the status for it, and this was said
+pub record ComparesWith (status : ℕ) (config : List ℕ) (MayEnd : Config → Result Comparison BoxFault → Type 0) (old new : Option (List ℕ)) (lost : Bool) : Type 0 where
+  pub closed : Bool
+  pub hosts : Config
+  pub spells : IsConfiguration closed config hosts
+  pub ended : Result Comparison BoxFault
+  pub compares : MayEnd hosts ended
+  pub status_is : status ≡ comparison_status ended
+  pub said : SaysComparison ended old new lost
 
 -- ---- with a report
 

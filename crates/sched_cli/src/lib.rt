@@ -23,7 +23,7 @@ pub use commands::{run_check, run_keep, run_serve};
 pub use diagnosis::run_explain_object;
 pub use expand::run_expand;
 pub use explain::run_explain;
-pub use folders::{run_folders, run_folders_report};
+pub use folders::{run_compare, run_folders, run_folders_report};
 pub use log::Log;
 pub use meetings::run_meetings;
 pub use returned::{WayBack, run_returned};

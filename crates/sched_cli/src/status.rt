@@ -1,13 +1,13 @@
 //! The exit statuses of `roombox`, and what it says on standard error.
 
-ghost use Rattle.std.specs.Prelude.{◌≡◌, OnErr, OnOk};
+ghost use Rattle.std.specs.Prelude.{◌≡◌, ◌++◌, OnErr, OnOk, decimal};
 ghost use Rattle.std.specs.Io.KnownBytes.{Appends};
 ghost use Rattle.sched_cli.specs.Commands.{SaysLine, device_text, fault_status, fault_text, memory_text, read_status, read_text, refused_text, too_long_text, write_status, write_text};
-ghost use Rattle.sched_cli.specs.Running.{box_status, box_text, differs_text};
+ghost use Rattle.sched_cli.specs.Running.{Writes, box_status, box_text, differs_text, found_status, found_text};
 
 use ical_lines::{Fault, Refusal};
 use itoa::Buffer;
-use sched_box::{BoxFault, Output, ServeFault, StreamFault, WriteFault};
+use sched_box::{BoxFault, Comparison, Output, ServeFault, StreamFault, WriteFault};
 
 /// Done. Objects that were refused in a stream leave it.
 pub const DONE: u8 = 0;
@@ -80,11 +80,45 @@ fn report_differs<E: Output>(errors: &mut E, name: &str) -> u8
 }
 
 fn say_differs<E: Output>(errors: &mut E, name: &str) -> Result<(), WriteFault>
-    ensures { SaysLine (differs_text name.now) (E.contents errors.old) (E.contents errors.new) (E.may_lose errors.new) }
+    ensures { Writes (differs_text name.now) result (E.contents errors.old) (E.contents errors.new) (E.may_lose errors.new) }
 {
     errors.put(b"roombox: differs ")?;
     errors.put(name.as_bytes())?;
     errors.put(b"\n")
+}
+
+/// Says what a comparison found, and gives the status for it: an answer that is missing is no fault.
+pub fn report_comparison<E: Output>(errors: &mut E, found: &Comparison) -> u8
+    ensures status { result ≡ found_status found.now.differing.items }
+    ensures says { SaysLine (found_text found.now) (E.contents errors.old) (E.contents errors.new) (E.may_lose errors.new) }
+{
+    let _ = say_comparison(errors, found);
+    if found.differing.is_empty() {
+        DONE
+    } else {
+        REFUSED
+    }
+}
+
+/// Says which files of the outbox differ, a line each, and then the counts.
+fn say_comparison<E: Output>(errors: &mut E, found: &Comparison) -> Result<(), WriteFault>
+    ensures { SaysLine (found_text found.now) (E.contents errors.old) (E.contents errors.new) (E.may_lose errors.new) }
+{
+    for name in &found.differing {
+        say_differs(errors, name.as_str())?;
+    }
+    say_number(errors, b"roombox: files: ", found.files)?;
+    say_number(errors, b", missing answers: ", found.missing)?;
+    errors.put(b"\n")
+}
+
+/// Says some words, and then a number.
+fn say_number<E: Output>(errors: &mut E, words: &[u8], number: u64) -> Result<(), WriteFault>
+    ensures { Writes (words.now ++ decimal number) result (E.contents errors.old) (E.contents errors.new) (E.may_lose errors.new) }
+{
+    let mut digits = Buffer::new();
+    errors.put(words)?;
+    errors.put(digits.format(number).as_bytes())
 }
 
 /// Says that the input is refused, and with which number.

@@ -9,6 +9,10 @@ pub record IsKept {F : Type 0} (is_known : F → Bool) (image : F → Image) (te
   pub temporary_is : temporary new ≡ temporary old
   pub stop : (left : Image) → may_leave new left → may_leave old left
 
+-- nothing was synced: a stop may leave all that it might have left before
+abbrev pub StaysAsOpen : {F : Type 0} → (F → Image → Type 0) → F → F → Type 0
+StaysAsOpen may_leave old new = (left : Image) → may_leave old left → may_leave new left
+
 -- nothing was published, and a stop leaves nothing else than before
 pub record IsUnpublished (old new : Image) (before after : Image → Type 0) : Type 0 where
   pub same : AreSame new old

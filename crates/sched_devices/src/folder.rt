@@ -2,7 +2,7 @@
 
 ghost use Rattle.std.specs.Prelude.{◌≡◌, ◌≤◌, ◌⊎◌, ℕ, List, Bool, true, false, None, Option, Some, map, length, IfOk, OnOk, OnErr, IsErrOf, IsNone, string_bytes};
 ghost use Rattle.profile.specs.streams.Folders.{AreNames, AreNamesSynced, Elapses, Image, MayBePublished, Temporary, with_files};
-ghost use Rattle.sched_devices.specs.Folder.{HasCause, IsKept, IsPublished, IsUnpublished};
+ghost use Rattle.sched_devices.specs.Folder.{HasCause, IsKept, IsPublished, IsUnpublished, StaysAsOpen};
 ghost use Rattle.sched_devices.specs.declared.folder.FolderFault.TheVariants.{Device, Missing, Exists, Memory};
 
 use std::alloc::{AllocError, AllocFailed, Global};
@@ -66,21 +66,23 @@ pub trait Folder {
     // How often it has failed, up to the greatest u64.
     ghost failed: { Self → ℕ };
 
-    /// The names under which it holds something, each once, in any order.
+    /// The names under which it holds something, each once, in any order. It syncs nothing: a stop may leave what it might have left before.
     fn names(&mut self, alloc: Global) -> Result<Vec<String>, FolderFault>
         ensures names { IfOk result (λ names. Self.is_known self.old ≡ true → AreNames (Self.image self.old) (map string_bytes names.items)) }
         ensures kept { IsKept Self.is_known Self.image Self.temporary Self.may_leave self.old self.new }
+        ensures still { StaysAsOpen Self.may_leave self.old self.new }
         ensures time { Elapses (Self.moment self.old) (Self.moment self.new) (Self.left_since self.old) (Self.left_since self.new) (Self.may_leave self.new) }
         ensures not_missing { IsErrOf result Missing → ⊥ }
         ensures not_existing { IsErrOf result Exists → ⊥ }
         ensures cause { HasCause (Self.failed self.old) (Self.failed self.new) (IsErrOf result Device) };
 
-    /// The octets under a name, at most 1,073,741,824. Only a known folder answers Missing, where it holds nothing there;
+    /// The octets under a name, at most 1,073,741,824. It syncs nothing either. Only a known folder answers Missing, where it holds nothing there;
     /// with another one a name that isn't there, and a file that is longer, counts as a failure.
     fn read(&mut self, alloc: Global, name: &str) -> Result<Vec<u8>, FolderFault>
         ensures bytes { IfOk result (λ bytes. Self.is_known self.old ≡ true → Self.image self.old name.now ≡ Some bytes.items) }
         ensures few { IfOk result (λ bytes. length bytes.items ≤ 1_073_741_824) }
         ensures kept { IsKept Self.is_known Self.image Self.temporary Self.may_leave self.old self.new }
+        ensures still { StaysAsOpen Self.may_leave self.old self.new }
         ensures time { Elapses (Self.moment self.old) (Self.moment self.new) (Self.left_since self.old) (Self.left_since self.new) (Self.may_leave self.new) }
         ensures missing { IsErrOf result Missing → (Self.is_known self.old ≡ true) × (Self.image self.old name.now ≡ None) }
         ensures not_existing { IsErrOf result Exists → ⊥ }

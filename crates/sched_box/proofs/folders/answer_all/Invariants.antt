@@ -1,4 +1,4 @@
-use Rattle.std.proofs.Common.{◌≡◌, ◌≤◌, true, take, map, string_bytes}
+use Rattle.std.proofs.Common.{◌≡◌, ◌≤◌, ◌+◌, true, take, map, string_bytes}
 use Rattle.profile.specs.streams.Folders.{LosesNamesAlone}
 use Rattle.sched_devices.specs.Folder.{IsKept}
 use Rattle.sched_box.specs.Running.{HasAnswered, LeavesHeld}
@@ -13,12 +13,12 @@ invariant-loop-file g l = record {
   outbox_told : g.O.Folder.failed l.outbox ≡ g.O.Folder.failed l.fn.outbox;
   outbox_goes_on : g.O.Folder.is_known l.fn.outbox ≡ true → LosesNamesAlone (g.O.Folder.image l.fn.outbox) (g.O.Folder.may_leave l.fn.outbox)
       → LosesNamesAlone (g.O.Folder.image l.outbox) (g.O.Folder.may_leave l.outbox);
-  counted : l.report.files ≡ l.file-index;
+  counted : l.report.files ≡ l.place + l.file-index;
   fewer : l.report.written ≤ l.report.files;
   so : g.O.Folder.is_known l.fn.outbox ≡ true
       → HasAnswered (record { known = g.I.Folder.is_known l.fn.inbox; inbox = g.I.Folder.image l.fn.inbox; books = l.fn.books; start = g.O.Folder.image l.fn.outbox; first = g.O.Folder.moment l.fn.outbox })
-      (take l.file-index l.files) l.books (g.O.Folder.image l.outbox) (g.O.Folder.moment l.outbox) (LeavesHeld (g.O.Folder.image l.fn.outbox) (g.O.Folder.may_leave l.fn.outbox))
+      (take (l.place + l.file-index) l.files) l.books (g.O.Folder.image l.outbox) (g.O.Folder.moment l.outbox) (LeavesHeld (g.O.Folder.image l.fn.outbox) (g.O.Folder.may_leave l.fn.outbox))
       (g.O.Folder.left_since l.fn.outbox) (g.O.Folder.left_since l.outbox) (g.O.Folder.may_leave l.outbox) l.report;
   files_told : g.I.Folder.is_known l.fn.inbox ≡ true
-      → FilesTold g.J.Journal.begins g.J.Journal.tells (g.I.Folder.image l.fn.inbox) (map string_bytes l.theirs) l.fn.journal (take l.file-index l.files) l.fn.books l.books l.journal;
+      → FilesTold g.J.Journal.begins g.J.Journal.tells (g.I.Folder.image l.fn.inbox) (map string_bytes l.theirs) l.fn.journal (take (l.place + l.file-index) l.files) l.fn.books l.books l.journal;
 }
