@@ -164,11 +164,7 @@ fn have_twin_overrides(alloc: Global, entries: &Entries) -> Result<bool, AllocEr
 }
 
 /// The events of a UID, as entries of a calendar.
-fn entries_of(
-    alloc: Global,
-    events: &[EventComponent],
-    uid: &Text,
-) -> Result<Entries, AllocError>
+fn entries_of(alloc: Global, events: &[EventComponent], uid: &Text) -> Result<Entries, AllocError>
     ensures { IfOk result (λ entries. entries ≡ map name_said (of_uid (text_octets uid.now) (map component_of events.now))) }
 {
     let mut entries = Entries::new(alloc);

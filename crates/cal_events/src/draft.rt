@@ -266,7 +266,10 @@ fn single_at(entry: usize, event: &EventComponent, slot: i64, start: i64) -> Pla
 }
 
 /// The keys of the masters, with slot 0, in order.
-pub(crate) fn keys_of_masters(alloc: Global, entries: &Entries) -> Result<Vec<InstanceKey<'_>>, AllocError>
+pub(crate) fn keys_of_masters(
+    alloc: Global,
+    entries: &Entries,
+) -> Result<Vec<InstanceKey<'_>>, AllocError>
     ensures { IfOk result (λ keys. AreSorted (master_keys entries.now) keys.items) }
 {
     let mut keys = Vec::new(alloc);
@@ -280,7 +283,10 @@ pub(crate) fn keys_of_masters(alloc: Global, entries: &Entries) -> Result<Vec<In
 }
 
 /// The keys of the instances that overrides replace, in order.
-pub(crate) fn keys_of_overrides(alloc: Global, entries: &Entries) -> Result<Vec<InstanceKey<'_>>, AllocError>
+pub(crate) fn keys_of_overrides(
+    alloc: Global,
+    entries: &Entries,
+) -> Result<Vec<InstanceKey<'_>>, AllocError>
     ensures { IfOk result (λ keys. AreSorted (override_keys entries.now) keys.items) }
 {
     let mut keys = Vec::new(alloc);

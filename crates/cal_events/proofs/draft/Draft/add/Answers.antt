@@ -18,7 +18,7 @@ returns-then-not-is_kept c events draft =
     let short : c.len.result < 2 ^ 64 = search rules in
     let old = c.args.self.now in
     let named = naming_more room events event old.naming c.with-self.result draft.naming c.with-self.ensures.any c.with-self.ensures.named c.with-self.ensures.counted
-        (few events event old.entries _ draft.entries c.in_ok-push.ensures (subst (λ (n : ℕ). n < 2 ^ 64) c.len.ensures short)) in
+    (few events event old.entries _ draft.entries c.in_ok-push.ensures (subst (λ (n : ℕ). n < 2 ^ 64) c.len.ensures short)) in
     draft_more room events event c.args.self.now _ draft c.requires [] c.in_ok-push.ensures (sym (append-nil _)) (none_own room _ event kept)
     (more_series room event (map component_of c.args.self.now.series.items) _ false (ap (λ x. x && is_master event && is_some event.rule) kept) (sym (append-nil _)))
     named
@@ -32,7 +32,7 @@ returns-in_ok-push-2 c events draft =
     let short : c.len.result < 2 ^ 64 = search rules in
     let old = c.args.self.now in
     let named = naming_more room events event old.naming c.with-self.result draft.naming c.with-self.ensures.any c.with-self.ensures.named c.with-self.ensures.counted
-        (few events event old.entries _ draft.entries c.in_ok-push.ensures (subst (λ (n : ℕ). n < 2 ^ 64) c.len.ensures short)) in
+    (few events event old.entries _ draft.entries c.in_ok-push.ensures (subst (λ (n : ℕ). n < 2 ^ 64) c.len.ensures short)) in
     let here : c.len-place.result ≡ length c.args.self.now.entries = c.len-place.ensures in
     draft_more room events event c.args.self.now _ draft c.requires own.0 c.in_ok-push.ensures own.1 (subst (λ (n : ℕ). AreOwnAt room n event own.0) here own.2)
     (more_series room event (map component_of c.args.self.now.series.items) _ true (ap (λ x. x && is_master event && is_some event.rule) kept ∙ sym c.is_series.ensures ∙ c.if-is_series.true)
@@ -48,7 +48,7 @@ returns-else-is_series c events draft =
     let short : c.len.result < 2 ^ 64 = search rules in
     let old = c.args.self.now in
     let named = naming_more room events event old.naming c.with-self.result draft.naming c.with-self.ensures.any c.with-self.ensures.named c.with-self.ensures.counted
-        (few events event old.entries _ draft.entries c.in_ok-push.ensures (subst (λ (n : ℕ). n < 2 ^ 64) c.len.ensures short)) in
+    (few events event old.entries _ draft.entries c.in_ok-push.ensures (subst (λ (n : ℕ). n < 2 ^ 64) c.len.ensures short)) in
     let here : c.len-place.result ≡ length c.args.self.now.entries = c.len-place.ensures in
     draft_more room events event c.args.self.now _ draft c.requires own.0 c.in_ok-push.ensures own.1 (subst (λ (n : ℕ). AreOwnAt room n event own.0) here own.2)
     (more_series room event (map component_of c.args.self.now.series.items) _ false (ap (λ x. x && is_master event && is_some event.rule) kept ∙ sym c.is_series.ensures ∙ c.if-is_series.false) (sym (append-nil _)))
