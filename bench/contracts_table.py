@@ -47,7 +47,7 @@ CALLS = {
                       "Zone::regular_from", "Zone::period_days", "zones_repeat", "RoomZone::*", "Clock::*"],
         "cal_events": ["read_meeting", "Method::*", "Property::*", "Presence::*", "judge_time", "When::instant", "is_in_event_dates", "one_event", "one_zoned_time", "EventComponent::singles", "EventComponent::series",
                        "EventComponent::instances_in", "Time::instant_in", "Event::read", "Event::instances", "Event::first_overlap", "one_meeting", "one_instance",
-                       "all_instances", "Calendar::*", "one_calendar_text", "singles_are_confirmed", "series_and_singles_divide", "zone_named_keeps", "Series::*", "all_starts",
+                       "all_instances", "Calendar::*", "Naming::*", "blamed_uid", "one_calendar_text", "singles_are_confirmed", "series_and_singles_divide", "zone_named_keeps", "Series::*", "all_starts",
                        "series_are_said", "calendar_series_are_said", "instances_last"],
         "itip_messages": ["Message::*", "MessageComponent::slot_in", "MessageComponent::instances_in", "MessageComponent::names", "MessageComponent::without_instances",
                           "Attendees::contains", "component_lines", "one_message", "one_content"],

@@ -18,6 +18,7 @@ from zoneinfo import ZoneInfo
 from certificate_by_dateutil import DAY, NOW, ROOM, Calendar, calendar_text, kept, moment, stamp
 
 START = moment("20250101T000000Z")
+OTHER = "mailto:r2@example.com"
 EMPTY = "BEGIN:VCALENDAR\r\nVERSION:2.0\r\nPRODID:-//test//EN\r\nEND:VCALENDAR\r\n"
 ONE = EMPTY.replace("END:VCALENDAR", f"BEGIN:VEVENT\r\nUID:a\\,b\r\nDTSTAMP:20250101T000000Z\r\nORGANIZER:mailto:ann@example.com\r\nATTENDEE;PARTSTAT=ACCEPTED:{ROOM}\r\n"
                     "DTSTART:20250415T070000Z\r\nDTEND:20250415T080000Z\r\nEND:VEVENT\r\nEND:VCALENDAR")
@@ -157,7 +158,6 @@ def cases():
         ("a span that ends where it begins", ONE, [ROOM, "--from", "20250415T060000Z", "--until", "20250415T070000Z"], 0, ""),
         ("a span that begins where it ends", ONE, [ROOM, "--from", "20250415T080000Z"], 0, ""),
         ("its last second", ONE, [ROOM, "--from", "20250415T075959Z", "--until", "20250415T080000Z"], 0, line),
-        ("another room", ONE, ["mailto:r2@example.com", *day], 0, ""),
         ("what is free of a day", ONE, [ROOM, *day, "--free"], 1, "20250415T000000Z 20250415T070000Z\n20250415T080000Z 20250416T000000Z\n"),
         ("an hour that is free", ONE, [ROOM, "--from", "20250415T080000Z", "--until", "20250415T090000Z", "--free"], 0, "20250415T080000Z 20250415T090000Z\n"),
         ("an hour that isn't", ONE, [ROOM, "--from", "20250415T070000Z", "--until", "20250415T080000Z", "--free"], 1, ""),
@@ -189,8 +189,86 @@ def cases():
     ]
 
 
+def vevent(uid, *lines):
+    """A VEVENT of an hour on 15 April 2025."""
+    return ["BEGIN:VEVENT", f"UID:{uid}", "DTSTAMP:20250101T000000Z", "ORGANIZER:mailto:ann@example.com", *lines, "DTSTART:20250415T070000Z", "DTEND:20250415T080000Z", "END:VEVENT"]
+
+
+def calendar_of(*events):
+    return "\r\n".join(["BEGIN:VCALENDAR", "VERSION:2.0", "PRODID:-//test//EN", *(line for it in events for line in it), "END:VCALENDAR", ""])
+
+
+def said_cases():
+    """What is said on standard error of calendars that others export, and of a room that isn't there: with the status and both outputs by hand."""
+    day = ["--from", "20250415T000000Z", "--until", "20250416T000000Z"]
+    line = "20250415T070000Z 20250415T080000Z {} mailto:ann@example.com\n"
+    none = f"roombox: no event names {OTHER}\n"
+    here, accepted = f"ATTENDEE:{ROOM}", f"ATTENDEE;PARTSTAT=ACCEPTED:{ROOM}"
+    outlook = calendar_of(vevent("a", here), vevent("b", f"ATTENDEE;CN=Room 1;ROLE=NON-PARTICIPANT;CUTYPE=RESOURCE:{ROOM}"))
+    nextcloud = calendar_of(vevent("a", accepted), vevent("b", f"ATTENDEE;PARTSTAT=TENTATIVE:{ROOM}"))
+    apple = calendar_of(vevent("a", "LOCATION:r1@example.com"), vevent("b", "LOCATION:r1@example.com", "ATTENDEE;PARTSTAT=ACCEPTED:mailto:bob@example.com"))
+    many = calendar_of(*(vevent(f"e{it}", f"ATTENDEE;PARTSTAT=ACCEPTED:{OTHER}", *([accepted] if it == 30 else [])) for it in range(60)))
+    cases = [
+        ("a room that isn't there", ONE, [OTHER, *day], 3, "", none),
+        ("it isn't free", ONE, [OTHER, *day, "--free"], 3, "", none),
+        ("it isn't free without an end", ONE, [OTHER, "--free"], 3, "", none),
+        ("it has no object", ONE, [OTHER, *day, "--ics"], 3, "", none),
+        ("it has no page", ONE, [OTHER, *day, "--html"], 3, "", none),
+        ("an address is compared in lower case", ONE, [ROOM.upper(), *day], 0, line.format("a\\,b"), ""),
+        ("and is shown so", ONE, [OTHER.upper(), *day], 3, "", none),
+        ("a name is shown in printable ASCII", ONE, ["mailto:r%\u00e9@example.com", *day], 3, "", "roombox: no event names mailto:r%25%C3%A9@example.com\n"),
+        ("an empty calendar names no room", EMPTY, [OTHER, *day, "--free"], 0, "20250415T000000Z 20250416T000000Z\n", ""),
+        ("ATTENDEE without PARTSTAT, as Outlook exports it", outlook, [ROOM, *day], 0, "", f"roombox: 2 events name {ROOM} and aren't accepted\n"),
+        ("such hours are free", outlook, [ROOM, *day, "--free"], 0, "20250415T000000Z 20250416T000000Z\n", f"roombox: 2 events name {ROOM} and aren't accepted\n"),
+        ("one of two is tentative, as Nextcloud exports it", nextcloud, [ROOM, *day], 0, line.format("a"), f"roombox: 1 event names {ROOM} and isn't accepted\n"),
+        ("and free says so with status 1", nextcloud, [ROOM, *day, "--free"], 1, "20250415T000000Z 20250415T070000Z\n20250415T080000Z 20250416T000000Z\n",
+         f"roombox: 1 event names {ROOM} and isn't accepted\n"),
+        ("the room in LOCATION alone, as Apple exports it", apple, [ROOM, *day], 3, "", f"roombox: no event names {ROOM}\n"),
+        ("one event of sixty names the room", many, [ROOM, *day], 0, line.format("e30"), ""),
+        ("those of another room aren't counted", calendar_of(vevent("a", accepted), vevent("b", f"ATTENDEE:{OTHER}")), [ROOM, *day], 0, line.format("a"), ""),
+        ("declined events are counted", calendar_of(vevent("a", f"ATTENDEE;PARTSTAT=DECLINED:{ROOM}")), [ROOM, *day], 0, "", f"roombox: 1 event names {ROOM} and isn't accepted\n"),
+        ("cancelled ones aren't", calendar_of(vevent("a", here, "STATUS:CANCELLED")), [ROOM, *day], 0, "", ""),
+        ("of two lines of one address the first counts", calendar_of(vevent("a", here, accepted)), [ROOM, *day], 0, "", f"roombox: 1 event names {ROOM} and isn't accepted\n"),
+        ("two masters of one meeting", calendar_of(vevent("b", accepted), vevent("a\\,b", accepted), vevent("c", accepted), vevent("a\\,b", accepted)), [ROOM, *day], 3, "", "roombox: refused 53\nroombox: UID a,b\n"),
+        ("two meetings of one UID aren't", calendar_of(vevent("a", accepted), [it.replace("ann@", "bob@") for it in vevent("a", accepted)], vevent("c", accepted), vevent("c", accepted)), [ROOM, *day], 3, "",
+         "roombox: refused 53\nroombox: UID c\n"),
+        ("two overrides of one instance", calendar_of(vevent("a", accepted), *[vevent("o", accepted, "RECURRENCE-ID:20250415T070000Z") for _ in range(2)]), [ROOM, *day], 3, "", "roombox: refused 54\nroombox: UID o\n"),
+        ("an end before its start", calendar_of(vevent("a", accepted), [it.replace("T080000Z", "T060000Z") for it in vevent("late\\, is", accepted)]), [ROOM, *day], 3, "", "roombox: refused 50\nroombox: UID late, is\n"),
+        ("a VEVENT without UID has none to tell", calendar_of([it for it in vevent("a", accepted) if not it.startswith("UID")]), [ROOM, *day], 3, "", "roombox: refused 61\n"),
+        ("a refused calendar is refused for any room", "BEGIN:VCALENDAR\r\n", [OTHER], 3, "", "roombox: refused 21\n"),
+    ]
+    return cases
+
+
+def of_kept(program):
+    """What `keep` writes passes for its room, without a word: also a declined instance of a series that was accepted, and a room that has nothing."""
+    series = ["BEGIN:VCALENDAR", "VERSION:2.0", "PRODID:-//test//EN", "METHOD:REQUEST", *vevent("plan", f"ATTENDEE:{ROOM}")[:-1], "RRULE:FREQ=DAILY;COUNT=3", "END:VEVENT", "END:VCALENDAR", ""]
+    gone = [it for it in series if not it.startswith("RRULE")]
+    gone[3] = "METHOD:CANCEL"
+    gone[4:5] = ["BEGIN:VEVENT", "RECURRENCE-ID:20250416T070000Z", "SEQUENCE:1"]
+    stream = f"{NOW}room {ROOM}\nroom {OTHER}\n\n" + "\r\n".join(series) + "\r\n".join(gone)
+    faults = 0
+    for room, status, lines in ((ROOM, 0, 2), (OTHER, 0, 0)):
+        text = subprocess.run([program, "keep", room], input=stream.encode(), capture_output=True, timeout=300, check=True).stdout.decode()
+        found = run(program, text, room)
+        if (found[0], found[1].count("\n"), found[2]) != (status, lines, ""):
+            faults += 1
+            print(f"what keep writes for {room}: {found}")
+    text = kept(program, stream)
+    found = run(program, text, OTHER, "--free", "--from", "20250415T000000Z", "--until", "20250416T000000Z")
+    if "STATUS:CANCELLED" not in text or found != (3, "", f"roombox: no event names {OTHER}\n"):
+        faults += 1
+        print(f"the kept calendar of another room: {found}")
+    return 3, faults
+
+
 def by_hand(program):
     faults = 0
+    for name, text, words, status, wanted, said in said_cases():
+        found = run(program, text, *words)
+        if found != (status, wanted, said):
+            faults += 1
+            print(f"{name}: {found}, wanted {status}, {wanted!r}, {said!r}")
     for name, text, words, status, wanted in cases():
         found = run(program, text, *words)
         if found[:2] != (status, wanted):
@@ -203,7 +281,8 @@ def by_hand(program):
     if run(program, text, ROOM, "--from", "20250415T140000Z", "--until", "20250415T150000Z", "--free")[0] != 0:
         faults += 1
         print("an empty room, as keep prints it, is free")
-    return len(cases()) + 2, faults
+    more, wrong = of_kept(program)
+    return len(cases()) + len(said_cases()) + 2 + more, faults + wrong
 
 
 def tried(by_hand, random_cases):

@@ -12,6 +12,8 @@ pub mod InOneOrder
 pub mod DraftKeys
 pub mod OwnSingles
 pub mod SeriesLemmas
+pub mod NamingLemmas
+pub mod BlamedLemmas
 pub mod DraftLemmas
 pub mod Distinct
 pub mod InstanceLemmas

@@ -16,6 +16,7 @@ use Rattle.profile.specs.events.Confirmed.{alone, is_kept, is_series, IsOfSeries
 use Rattle.cal_events.specs.Component.{component_of}
 use Rattle.cal_events.specs.Entries.{Name}
 use Rattle.cal_events.specs.Names.{name_said, meeting_at, recurrence_at}
+use Rattle.cal_events.specs.Naming.{IsNaming}
 use Rattle.cal_events.specs.Calendar.{key_of, key_in, instance_as}
 use Rattle.cal_events.specs.declared.calendar.PlacedSingle.{PlacedSingle as Single}
 use Rattle.cal_events.specs.declared.draft.Draft.{Draft}
@@ -68,6 +69,7 @@ pub record IsDraft (room : List ℕ) (events : List EventComponent) (draft : Dra
   pub entries : draft.entries ≡ map name_said events
   pub series : map component_of draft.series.items ≡ filter (is_series room) events
   pub singles : AreDrawn room 0 events draft.singles.items
+  pub naming : IsNaming room events draft.naming
 
 -- the draft of an object's VEVENTs
 pub record IsDraftOf (room : List ℕ) (object : Tree) (draft : Draft) : Type 0 where

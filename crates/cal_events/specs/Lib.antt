@@ -29,6 +29,7 @@ pub mod Said
 pub mod Past
 pub mod Recurrence
 pub mod SingleStarts
+pub mod Naming
 pub mod Draft
 pub mod Ruled
 pub mod Series

@@ -20,6 +20,7 @@ use crate::calendar::{Calendar, PlacedSingle};
 use crate::component::{EventComponent, PartStat};
 use crate::entries::Entries;
 use crate::instance::InstanceKey;
+use crate::naming::Naming;
 use crate::neighbours::has_equal_neighbours;
 use crate::reading::{read_placed, read_room_zone};
 use crate::series::Series;
@@ -36,6 +37,7 @@ pub(crate) struct Draft {
     entries: Entries,
     singles: Vec<PlacedSingle>,
     series: Vec<EventComponent>,
+    pub(crate) naming: Naming,
 }
 
 impl Draft {
@@ -47,6 +49,7 @@ impl Draft {
             entries: Entries::new(alloc),
             singles: Vec::new(alloc),
             series: Vec::new(alloc),
+            naming: Naming::none(),
         }
     }
 
@@ -101,6 +104,9 @@ impl Draft {
     {
         let place = self.entries.len();
         self.entries.push(alloc, &event)?;
+        // Only for the proof: no more are counted than there are.
+        let _ = self.entries.len();
+        self.naming = self.naming.with(&event, room);
         if !is_kept(&event, room) {
             return Ok(());
         }
@@ -124,6 +130,7 @@ impl Draft {
             entries,
             singles,
             series,
+            ..
         } = self;
         if has_equal_neighbours(&keys_of_masters(alloc, &entries)?) {
             return Err(Fault::Refused(Refusal::TWO_MASTERS));
@@ -259,7 +266,10 @@ fn single_at(entry: usize, event: &EventComponent, slot: i64, start: i64) -> Pla
 }
 
 /// The keys of the masters, with slot 0, in order.
-fn keys_of_masters(alloc: Global, entries: &Entries) -> Result<Vec<InstanceKey<'_>>, AllocError>
+pub(crate) fn keys_of_masters(
+    alloc: Global,
+    entries: &Entries,
+) -> Result<Vec<InstanceKey<'_>>, AllocError>
     ensures { IfOk result (λ keys. AreSorted (master_keys entries.now) keys.items) }
 {
     let mut keys = Vec::new(alloc);
@@ -273,7 +283,10 @@ fn keys_of_masters(alloc: Global, entries: &Entries) -> Result<Vec<InstanceKey<'
 }
 
 /// The keys of the instances that overrides replace, in order.
-fn keys_of_overrides(alloc: Global, entries: &Entries) -> Result<Vec<InstanceKey<'_>>, AllocError>
+pub(crate) fn keys_of_overrides(
+    alloc: Global,
+    entries: &Entries,
+) -> Result<Vec<InstanceKey<'_>>, AllocError>
     ensures { IfOk result (λ keys. AreSorted (override_keys entries.now) keys.items) }
 {
     let mut keys = Vec::new(alloc);

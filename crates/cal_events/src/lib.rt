@@ -1,6 +1,7 @@
 //! Events, instances and calendars, starts and ends with their zones, and the rules of events.
 #![tactic(auto)]
 
+pub mod blamed;
 pub mod calendar;
 pub mod component;
 mod component_values;
@@ -14,6 +15,7 @@ mod instances;
 mod instants;
 mod meeting_components;
 mod method;
+pub mod naming;
 mod neighbours;
 mod occurrences;
 mod overlapping;
@@ -36,6 +38,7 @@ mod whole;
 mod with_zone;
 mod zones;
 
+pub use blamed::blamed_uid;
 pub use calendar::{Calendar, Singles};
 pub use component::{Attendee, EventComponent, PartStat, one_event};
 pub use event::{Event, one_instance, one_meeting};
@@ -45,6 +48,7 @@ pub use instance::{HORIZON, Instance, InstanceKey, OwnedKey, Single};
 pub use instances::{Instances, is_in_event_dates};
 pub use meeting_components::read_meeting;
 pub use method::Method;
+pub use naming::Naming;
 pub use occurrences::WrittenTimes;
 pub use property::{PROPERTIES, Presence, Property};
 pub use reading::{

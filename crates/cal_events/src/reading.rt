@@ -16,11 +16,13 @@ ghost use Rattle.ical_tree.specs.Tree.{component_lines, tree_of};
 ghost use Rattle.cal_zones.specs.RoomZones.{room_of};
 ghost use Rattle.cal_events.specs.Zones.{object_of, AreRead};
 ghost use Rattle.cal_events.specs.Component.{IsFaultAmong, method_read, component_of, vevents_of};
+ghost use Rattle.cal_events.specs.Naming.{IsNaming};
 
 use crate::calendar::Calendar;
 use crate::component::{EventComponent, one_event};
 use crate::draft::Draft;
 use crate::method::Method;
+use crate::naming::Naming;
 use crate::zones::ZonesOfObject;
 use cal_zones::RoomZone;
 use ical_lines::{Fault, Refusal};
@@ -39,6 +41,22 @@ impl Calendar {
     {
         let draft = Draft::read(alloc, bytes, room)?;
         draft.into_calendar(alloc)
+    }
+
+    /// The same, and how its VEVENTs name the room.
+    pub fn read_naming(
+        alloc: Global,
+        bytes: &[u8],
+        room: &Address,
+    ) -> Result<(Calendar, Naming), Fault>
+        ensures spells { IfOk result (λ read. (s : SpellsCalendar (address_octets room.now) bytes.now read.0) × IsNaming (address_octets room.now) s.says.events read.1) }
+        ensures refuses { IfErr result (RefusesOnly is_calendar_fault) }
+        ensures fault { IfErr result (RefusesBy (CalendarTextFault bytes.now)) }
+    {
+        let draft = Draft::read(alloc, bytes, room)?;
+        let naming = draft.naming;
+        let calendar = draft.into_calendar(alloc)?;
+        Ok((calendar, naming))
     }
 
     /// The calendar of an object that was read. In time n log n.

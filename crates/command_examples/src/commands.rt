@@ -1,14 +1,15 @@
 //! Cases of the commands: `name | command | input | certificate | output | errors | status`. The middle columns are names of files, put one
-//! after another; the fourth of `expand` and of `name-zone` is the words of a zone. A command runs on them with a reader and writers in memory.
+//! after another; the fourth of `expand` and of `name-zone` is the words of a zone, that of `agenda`,
+//! `free` and `published` a room. A command runs on them with a reader and writers in memory.
 
-use cal_events::Calendar;
+use cal_events::{Calendar, Span};
 use cal_zones::RoomZone;
 use example_cases::Case;
 use example_cases::files::read_all;
-use ical_values::Address;
+use ical_values::{Address, Stamp};
 use sched_cli::commands::{KeptText, run_check, run_keep, run_serve};
 use sched_cli::status::{DONE, report_read};
-use sched_cli::{run_expand, run_explain, run_explain_object};
+use sched_cli::{run_agenda, run_expand, run_explain, run_explain_object, run_free, run_published};
 use std::alloc::Global;
 use std::io::{self, ErrorKind};
 use std::rt::Files;
@@ -16,6 +17,9 @@ use std::str;
 
 /// The room that is asked.
 const ROOM: &str = "mailto:r1@example.com";
+
+/// 2025-03-10T00:00:00Z, in seconds from 1970-01-01T00:00:00Z.
+const DAY_START: i64 = 1_741_564_800;
 
 /// What a command wrote, and its status.
 #[derive(PartialEq, Eq, Drop)]
@@ -60,6 +64,9 @@ fn run<R: Files + AllocGlobal>(rt: &R, case: Case<'_>) -> io::Result<Outcome> {
             let zone = zone_of(alloc, case.column(3))?;
             name_zone(alloc, reader, &zone, &mut output, &mut errors)?
         }
+        "agenda" | "free" | "published" => {
+            ask_agenda(alloc, case, reader, &room, &mut output, &mut errors)?
+        }
         "check" => {
             let certificate = read_all(rt, case.column(3))?;
             let certificate = certificate.as_slice();
@@ -74,6 +81,49 @@ fn run<R: Files + AllocGlobal>(rt: &R, case: Case<'_>) -> io::Result<Outcome> {
         output,
         errors,
     })
+}
+
+/// Asks the calendar what a room has on 10 March 2025, or when it is free: the room of the fourth column, if it names one.
+fn ask_agenda(
+    alloc: Global,
+    case: Case<'_>,
+    calendar: &[u8],
+    room: &Address,
+    output: &mut Vec<u8>,
+    errors: &mut Vec<u8>,
+) -> io::Result<u8> {
+    let other = other_room(alloc, case.column(3))?;
+    let room = match &other {
+        Some(other) => other,
+        None => room,
+    };
+    let span = Span {
+        start: DAY_START,
+        end: DAY_START + 86_400,
+    };
+    Ok(match case.call() {
+        "agenda" => run_agenda(alloc, calendar, room, span, None, output, errors),
+        "free" => run_free(alloc, calendar, room, span, None, output, errors),
+        _ => {
+            let from = stamp_of("20250310T000000Z")?;
+            run_published(alloc, calendar, room, from, span.end, output, errors)
+        }
+    })
+}
+
+fn stamp_of(text: &str) -> io::Result<Stamp> {
+    Stamp::read(text).map_err(|_| io::Error::from(ErrorKind::InvalidInput))
+}
+
+/// The room that a column names, if it names one.
+fn other_room(alloc: Global, word: &str) -> io::Result<Option<Address>> {
+    if word.is_empty() {
+        return Ok(None);
+    }
+    match Address::read(alloc, word) {
+        Ok(room) => Ok(Some(room)),
+        Err(_) => Err(io::Error::from(ErrorKind::InvalidInput)),
+    }
 }
 
 /// Names the zone of its room in a calendar: what comes out is the calendar with that line.

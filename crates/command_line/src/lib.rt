@@ -197,9 +197,14 @@ With --html, --from and --until it prints one page of HTML, which a tablet at th
 each day that the span touches when the room is taken, by whom, and when it is free. Days and times
 go by the clocks of --zone, else by UTC. The span is at most 62 days long.
 
+Where CALENDAR has events and none of them names ROOM as an ATTENDEE nothing is printed: a room that
+isn't there isn't free. Where events name ROOM, which hasn't accepted them, and aren't cancelled,
+standard error has a line that counts them.
+
 Exit status: 0 done, and with --free, --from and --until: the whole span is free; 1 with these: it
 isn't; 2 usage; 3 CALENDAR is refused: standard error has the number, which docs/REFERENCE.md lists;
-or it is too long; 4 a device failed, as where the file isn't there; 5 out of memory.
+or it is too long; or no event of it names ROOM; 4 a device failed, as where the file isn't there;
+5 out of memory.
 
 Example: roombox agenda kept.ics mailto:r1@example.com --from 20250415T120000Z --until \
 20250415T130000Z --free";

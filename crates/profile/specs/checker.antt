@@ -4,3 +4,5 @@ pub mod Certificates
 pub mod Calendars
 pub mod Agendas
 pub mod Publishing
+pub mod Naming
+pub mod Blamed

@@ -1,4 +1,5 @@
 pub mod Adapted
+pub mod AgendaSaid
 pub mod DiagnosisLemmas
 pub mod HandedBack
 pub mod Keeping

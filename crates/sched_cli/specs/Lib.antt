@@ -1,5 +1,6 @@
 pub mod Adapting
 pub mod Agendas
+pub mod Blaming
 pub mod Commands
 pub mod Diagnosis
 pub mod Explained

@@ -3,6 +3,7 @@
 
 pub mod adapt;
 pub mod agenda;
+mod blamed;
 pub mod commands;
 pub mod diagnosis;
 pub mod expand;

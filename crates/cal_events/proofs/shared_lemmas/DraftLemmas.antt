@@ -20,6 +20,7 @@ use Rattle.profile.specs.events.Starts.{IsInstance, ComesBefore}
 use Rattle.profile.specs.events.Confirmed.{Confirmed, alone, is_kept, is_series, IsSeries, IsReplacedAmong, IsSingle, AreSingles, AreConfirmed, MastersDiffer, OverridesDiffer}
 use Rattle.cal_events.specs.Entries.{Name}
 use Rattle.cal_events.specs.Names.{name_said, name_at, meeting_at, recurrence_at}
+use Rattle.cal_events.specs.Naming.{IsNaming}
 use Rattle.cal_events.specs.Calendar.{key_of, key_in, instance_as, named_instance, AreWithin, HaveDifferentKeys}
 use Rattle.ical_lines.specs.Fault.{RefusesBy}
 use Rattle.ical_lines.specs.declared.fault.Fault.{Fault}
@@ -84,14 +85,16 @@ module _ (room : List ℕ) (events : List EventComponent) (event : EventComponen
   as_many = ap length draft.entries ∙ length-map events name_said
 
   pub draft_more : IsSaid event → (own : List Single) → new.entries ≡ old.entries ++ name_said event ∷ [] → new.singles.items ≡ old.singles.items ++ own
-      → AreOwnAt room (length old.entries) event own → map component_of new.series.items ≡ map component_of old.series.items ++ cond (is_series room event) (event ∷ []) [] → IsDraft room (events ++ event ∷ []) new
-  draft_more spoken own e s at series = record {
+      → AreOwnAt room (length old.entries) event own → map component_of new.series.items ≡ map component_of old.series.items ++ cond (is_series room event) (event ∷ []) []
+      → IsNaming room (events ++ event ∷ []) new.naming → IsDraft room (events ++ event ∷ []) new
+  draft_more spoken own e s at series naming = record {
     said = All-append IsSaid events (event ∷ []) draft.said (λ k d w. first_said k d w);
     entries = e ∙ ap (λ l. l ++ name_said event ∷ []) draft.entries ∙ sym (map-append name_said events (event ∷ []));
     series = series ∙ ap (λ l. l ++ cond (is_series room event) (event ∷ []) []) draft.series ∙ sym (filter-append (is_series room) events (event ∷ []));
     singles =
         subst (AreDrawn room 0 (events ++ event ∷ [])) (sym s)
         (drawn_push room 0 events event old.singles.items own draft.singles (subst (λ (n : ℕ). AreOwnAt room n event own) (omega (arith, as_many)) at));
+    naming = naming;
   }
     where
       first_said : (k : ℕ) (d : EventComponent) → k < 1 → IsSaid (get_or (event ∷ []) k d)
@@ -314,3 +317,7 @@ module _ (room octets : List ℕ) (draft : Draft) (d : IsDraftIn room octets dra
   text_refused (Ok c) h = tt
   text_refused (Err Memory) h = tt
   text_refused (Err (Refused x)) h = in_vevents d.tree d.object (calendar_refused d.tree d.of.events (Err (Refused x)) d.of.says h)
+
+  -- and of the fault alone
+  pub text_refused_by : (f : Fault) → RefusesBy (IsTwoOf d.of.events) f → RefusesBy (CalendarTextFault octets) f
+  text_refused_by f h = text_refused (Err f) h

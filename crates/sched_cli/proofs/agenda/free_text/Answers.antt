@@ -20,9 +20,14 @@ returns-clause-text c =
     let whole : text ≡ c.write_spans.new.out.items = sym (grown ∙ ap (λ (l : List ℕ). l ++ text) c.new-text.ensures.items) in
     record {
       calendar = all;
-      spelled = c.in_ok-calendar.ensures.spells;
+      spelled = c.in_ok-calendar.ensures.read.spelled;
       spans = map ends_of spans;
       are = c.in_ok-spans.ensures all (subst (λ (l : List Instance). AreInSpan (IsOneOf all) from until (map instance_of l)) (sym c.deref.ensures.value) c.in_ok-instances.ensures);
       lines = subst (LinesOf (IsFreeLine zone) (map ends_of spans)) whole (subst (λ (l : List Span). LinesOf (IsFreeLine zone) (map ends_of l) text) c.deref-2.ensures.value lines);
       whole = c.is_free.ensures all from until (subst (λ (l : List Instance). AreInSpan (IsOneOf all) from until (map instance_of l)) (sym c.deref-3.ensures.value) c.in_ok-instances.ensures);
     }
+
+pub returns-clause-of_room : goal.returns-clause-of_room
+returns-clause-of_room c =
+    let read = c.in_ok-calendar.ensures.read in
+    record { confirmed = c.in_ok-calendar.calendar; spelled = read.spelled; of_room = read.of_room; counted = read.counted }

@@ -1,0 +1,7 @@
+use Rattle.std.proofs.Common.{rules}
+use Rattle.std.proofs.lemmas.List.Elements.{All-nil}
+use Rattle.cal_events.specs.Draft.{IsSaid}
+use Rattle.cal_events.proofs.draft.Draft.new.Goals as goal
+
+pub returns : goal.returns
+returns c room = record { said = All-nil IsSaid; entries = search rules; series = search rules; singles = search rules; naming = c.none.ensures room }
