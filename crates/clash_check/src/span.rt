@@ -8,9 +8,7 @@ ghost use Rattle.clash_check.specs.Draws.{IsPlaceIn};
 
 use crate::drawn::Drawn;
 use cal_period::periods_are_multiples;
-
-/// The most days that a span may have.
-const MOST_DAYS: u64 = 2_932_897;
+use cal_rules::MOST_PERIOD;
 
 /// Do these series do the same after so many days, from an instant on?
 pub(crate) fn is_span<D: Drawn>(drawn: &D, numbers: &[u64], from: i64, days: u64) -> bool
@@ -25,7 +23,7 @@ pub(crate) fn is_span<D: Drawn>(drawn: &D, numbers: &[u64], from: i64, days: u64
 fn is_days(days: u64) -> bool
     ensures { IsTrue result ↔ (0 < days) × (days ≤ most_period) }
 {
-    0 < days && days <= MOST_DAYS
+    0 < days && days <= MOST_PERIOD
 }
 
 /// Do all these series do the same after so many days, from an instant on?

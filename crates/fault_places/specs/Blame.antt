@@ -1,8 +1,9 @@
 -- What a content line has to do with a fault, by the number of its refusal.
-use Rattle.std.specs.Prelude.{◌≡◌, ◌≢◌, ◌⊎◌, ◌==◌, ◌||◌, ℕ, ℤ, Bool, true, false, IsTrue, List, codes, Option, Some, is_some, option_map, unwrap_or, if◌then◌else◌}
-use Rattle.std.specs.List.{find}
+use Rattle.std.specs.Prelude.{◌≡◌, ◌≢◌, ◌⊎◌, ◌==◌, ◌||◌, ℕ, ℤ, Bool, true, false, IsTrue, All, Contains, List, codes, Option, Some, is_some, option_map, unwrap_or, if◌then◌else◌}
+use Rattle.std.specs.List.{find, slice_split}
 use Rattle.profile.specs.events.EventComponents.{Property, UID, ORGANIZER, DTSTAMP, SEQUENCE, RECURRENCE-ID, DTSTART, DTEND, DURATION, RRULE, RDATE, EXDATE, ATTENDEE, is_named_by, properties}
 use Rattle.cal_events.specs.Forms.{IsReadable}
+use Rattle.profile.specs.events.Occurrences.{is_period}
 use Rattle.profile.specs.events.ZonedTimes.{ZonedTextFault}
 use Rattle.profile.specs.faults.Faults.{is_uid_fault, is_address_fault}
 use Rattle.profile.specs.series.RuleTexts.{SpellsRule, IsLeastRuleFault}
@@ -33,7 +34,19 @@ zone_property line =
     else (if has_name (codes "TZOFFSETFROM") line || has_name (codes "TZOFFSETTO") line then Offset
     else Other)
 
--- the value of a line of a VEVENT is right by itself; of RDATE and EXDATE nothing is said
+-- the texts of a line of RDATE or EXDATE, with commas between
+abbrev pub texts_of : List ℕ → List (List ℕ)
+texts_of line = slice_split (λ c. c == 44) (line_value line)
+
+-- one of them is a time, and no period
+abbrev pub IsRightText : List ℕ → List ℕ → List ℕ → Type 0
+IsRightText name line text = (is_period name text ≡ false) × IsReadable line text
+
+-- each is
+abbrev pub AreRight : List ℕ → List ℕ → Type 0
+AreRight name line = All (IsRightText name line) (texts_of line)
+
+-- the value of a line of a VEVENT is right by itself
 abbrev pub IsRight : Option Property → List ℕ → Type 0
 IsRight (Some UID) line = IsUid (unescaped (line_value line))
 IsRight (Some ORGANIZER) line = IsAddress (line_value line)
@@ -45,11 +58,21 @@ IsRight (Some RRULE) line = (rule : rules.RuleText) × SpellsRule (line_value li
 IsRight (Some RECURRENCE-ID) line = (is_some (line_param (codes "RANGE") line) ≡ false) × IsReadable line (line_value line)
 IsRight (Some DTSTART) line = IsReadable line (line_value line)
 IsRight (Some DTEND) line = IsReadable line (line_value line)
+IsRight (Some RDATE) line = AreRight (codes "RDATE") line
+IsRight (Some EXDATE) line = AreRight (codes "EXDATE") line
 IsRight _ line = Unit {0}
 
 -- a text of a line has the fault of a time, whatever zones there are
 abbrev pub IsWrongTime : List ℕ → List ℕ → ℕ → Type 0
 IsWrongTime line text n = (object : Tree) → ZonedTextFault object line text n
+
+-- a text of a line of RDATE or EXDATE has it: it is a period, which isn't supported, or it has the fault of a time
+abbrev pub IsWrongText : List ℕ → List ℕ → List ℕ → ℕ → Type 0
+IsWrongText name line text n = ((is_period name text ≡ true) × (n ≡ 56)) ⊎ ((is_period name text ≡ false) × IsWrongTime line text n)
+
+-- one of its texts does
+abbrev pub IsSomeWrong : List ℕ → List ℕ → ℕ → Type 0
+IsSomeWrong name line n = (text : List ℕ) × Contains (texts_of line) text × IsWrongText name line text n
 
 -- the value of a line of a VEVENT has the fault of this number by itself
 abbrev pub IsWrong : Option Property → List ℕ → ℕ → Type 0
@@ -66,8 +89,8 @@ IsWrong (Some RECURRENCE-ID) line n =
     ((n ≡ 65) × (is_some (line_param (codes "RANGE") line) ≡ true)) ⊎ IsWrongTime line (line_value line) n
 IsWrong (Some DTSTART) line n = IsWrongTime line (line_value line) n
 IsWrong (Some DTEND) line n = IsWrongTime line (line_value line) n
-IsWrong (Some RDATE) line n = (text : List ℕ) × IsWrongTime line text n
-IsWrong (Some EXDATE) line n = (text : List ℕ) × IsWrongTime line text n
+IsWrong (Some RDATE) line n = IsSomeWrong (codes "RDATE") line n
+IsWrong (Some EXDATE) line n = IsSomeWrong (codes "EXDATE") line n
 IsWrong _ line n = ⊥
 
 -- that of a line of STANDARD or DAYLIGHT
@@ -110,7 +133,8 @@ is_of_end n = n == 50 || n == 51 || n == 52 || n == 57
 -- a line of this property of a VEVENT
 abbrev pub may_have : ℕ → Property → Bool
 may_have n RRULE = n == 34 || n == 67
-may_have n RDATE = n == 52 || n == 67
+may_have n RDATE = n == 56 || n == 52 || n == 67
+may_have n EXDATE = n == 56
 may_have n DTSTART = n == 52
 may_have n RECURRENCE-ID = n == 52 || n == 57
 may_have n DURATION = n == 51 || n == 57

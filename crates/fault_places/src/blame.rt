@@ -1,10 +1,12 @@
 //! Whether a content line of an object has the fault that a number names.
-ghost use Rattle.std.specs.Prelude.{◌≡◌, Some, IfOk, IfErr, OnOk};
+ghost use Rattle.std.specs.Prelude.{◌≡◌, ◌==◌, Some, IfOk, IfErr, OnOk};
+ghost use Rattle.std.specs.List.{list_any};
 ghost use Rattle.ical_lines.specs.Fault.{RefusesBy};
 ghost use Rattle.ical_lines.specs.Text.{line_text};
-ghost use Rattle.profile.specs.events.EventComponents.{RDATE, RECURRENCE-ID};
+ghost use Rattle.profile.specs.events.EventComponents.{RECURRENCE-ID, property_name};
+ghost use Rattle.profile.specs.events.Occurrences.{is_period};
 ghost use Rattle.cal_events.specs.Property.{property_said};
-ghost use Rattle.fault_places.specs.Blame.{HasAlone, IsBlame, IsRight, IsRightInZone, IsSound, IsWrong, IsWrongInZone, blame_within, can_have, can_have_in_calendar, can_have_in_event, is_of_end, may_have, property_of, zone_property};
+ghost use Rattle.fault_places.specs.Blame.{AreRight, HasAlone, IsBlame, IsRight, IsRightInZone, IsRightText, IsSomeWrong, IsSound, IsWrong, IsWrongInZone, IsWrongText, blame_within, can_have, can_have_in_calendar, can_have_in_event, is_of_end, may_have, property_of, zone_property};
 
 use cal_events::{Property, judge_time};
 use cal_rules::RuleText;
@@ -150,7 +152,8 @@ fn judge_property(alloc: Global, property: Property, line: Line<'_>) -> Result<(
         }
         Property::RecurrenceId => judge_slot(line)?,
         Property::Dtstart | Property::Dtend => judge_time(line, value)?,
-        Property::Rdate | Property::Exdate => judge_times(line)?,
+        Property::Rdate => judge_times(line, Property::Rdate)?,
+        Property::Exdate => judge_times(line, Property::Exdate)?,
         Property::Status | Property::Summary => {}
     }
     Ok(())
@@ -167,14 +170,42 @@ fn judge_slot(line: Line<'_>) -> Result<(), Refusal>
     judge_time(line, line.value())
 }
 
-/// Of RDATE and EXDATE, whose values are several times.
-fn judge_times(line: Line<'_>) -> Result<(), Refusal>
-    ensures { IfErr result (λ e. IsWrong (Some RDATE) (line_text line.entry) e.number) }
+/// Of RDATE and EXDATE, whose values are several times: each text of the line, up to the first that is refused.
+fn judge_times(line: Line<'_>, property: Property) -> Result<(), Refusal>
+    ensures sound { OnOk result (AreRight (property_name (property_said property)) (line_text line.entry)) }
+    ensures fault { IfErr result (λ e. IsSomeWrong (property_name (property_said property)) (line_text line.entry) e.number) }
 {
     for text in line.value().split(',') {
-        judge_time(line, text)?;
+        judge_text(line, property, text)?;
     }
     Ok(())
+}
+
+/// Of one text of such a line.
+fn judge_text(line: Line<'_>, property: Property, text: &str) -> Result<(), Refusal>
+    ensures sound { OnOk result (IsRightText (property_name (property_said property)) (line_text line.entry) text.now) }
+    ensures fault { IfErr result (λ e. IsWrongText (property_name (property_said property)) (line_text line.entry) text.now e.number) }
+{
+    if is_period(property, text) {
+        return Err(Refusal::LIST_OR_PERIOD);
+    }
+    judge_time(line, text)
+}
+
+/// Whether a text is a period: with `/`, in RDATE, which alone may have periods (RFC 5545 3.3.9, 3.8.5.2).
+fn is_period(property: Property, text: &str) -> bool
+    ensures { result ≡ is_period (property_name (property_said property)) text.now }
+{
+    match property {
+        Property::Rdate => has_slash(text),
+        _ => false,
+    }
+}
+
+fn has_slash(text: &str) -> bool
+    ensures { result ≡ list_any (λ c. c == 47) text.now }
+{
+    text.bytes().any(|octet| octet == b'/')
 }
 
 /// Whether a line can have the fault of this number, together with others or because another one is missing.
@@ -224,8 +255,11 @@ fn may_have(number: u8, property: Property) -> bool
                 || number == Refusal::RECURRING_INSTANCE.number
         }
         Property::Rdate => {
-            number == Refusal::OUT_OF_DATES.number || number == Refusal::RECURRING_INSTANCE.number
+            number == Refusal::LIST_OR_PERIOD.number
+                || number == Refusal::OUT_OF_DATES.number
+                || number == Refusal::RECURRING_INSTANCE.number
         }
+        Property::Exdate => number == Refusal::LIST_OR_PERIOD.number,
         Property::Dtstart => number == Refusal::OUT_OF_DATES.number,
         Property::RecurrenceId => {
             number == Refusal::OUT_OF_DATES.number || number == Refusal::OTHER_FORM.number

@@ -9,10 +9,8 @@ ghost use Rattle.fault_places.specs.Nesting.{open_names, within_child, within_of
 use crate::blame::Within;
 use crate::place::Spot;
 use ical_lines::{Line, Refusal};
+use ical_tree::MAX_DEPTH;
 use std::alloc::{AllocError, Global};
-
-/// How deep components may be inside one another.
-const MAX_DEPTH: usize = 8;
 
 /// The components that have begun and not ended, and how many have begun before.
 #[derive(Drop)]

@@ -14,5 +14,5 @@ pub use component::Component;
 pub use law::one_tree;
 pub use own_lines::OwnLines;
 pub use properties::Properties;
-pub use read::{Object, read_object};
+pub use read::{MAX_DEPTH, Object, read_object};
 pub use write::write_object;

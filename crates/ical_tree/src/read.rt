@@ -43,7 +43,7 @@ use ical_lines::{Fault, Limits, Line, Lines, Refusal, Unfolded};
 use std::alloc::{AllocError, Global};
 
 /// The deepest nesting of components, VCALENDAR counted; this profile's choice.
-const MAX_DEPTH: usize = 8;
+pub const MAX_DEPTH: usize = 8;
 
 /// The most VEVENTs of one message; this profile's choice.
 const MAX_EVENTS: usize = 200;

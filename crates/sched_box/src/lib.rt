@@ -29,4 +29,4 @@ pub use sched_devices::{
 };
 pub use schedules::{Step, World, play};
 pub use serving::{ServeReport, keep, serve, serve_stream, serve_stream_telling};
-pub use settings::ZonedRoom;
+pub use settings::{MOST_ORGANISERS, MOST_ROOMS, ZonedRoom};

@@ -19,10 +19,10 @@ use ical_values::{Address, Stamp};
 use std::alloc::Global;
 
 /// How many rooms a box may host; this profile's choice.
-const MOST_ROOMS: usize = 64;
+pub const MOST_ROOMS: usize = 64;
 
 /// How many organisers a box may host; this profile's choice.
-const MOST_ORGANISERS: usize = 256;
+pub const MOST_ORGANISERS: usize = 256;
 
 /// A room and its zone.
 #[derive(Drop)]

@@ -9,14 +9,9 @@ use ical_lines::Fault;
 use ical_values::{Address, Stamp};
 use itoa::Buffer;
 use sched_box::config::LONGEST;
+use sched_box::{MOST_ORGANISERS, MOST_ROOMS};
 use std::alloc::{AllocError, Global};
 use std::str;
-
-/// The most rooms, and the most zones of rooms.
-const MOST_ROOMS: usize = 64;
-
-/// The most organisers.
-const MOST_ORGANISERS: usize = 256;
 
 /// Which octets these are.
 #[derive(Clone, Copy, PartialEq, Eq)]
