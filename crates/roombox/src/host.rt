@@ -12,6 +12,7 @@ use command_line::{BadWord, Invocation, Reading, fault_of, read_words};
 use ical_lines::Fault;
 use ical_values::Address;
 use sched_box::config::LONGEST;
+use sched_box::objects::{KEPT, MOST_OCTETS};
 use sched_box::{DeviceReader, DeviceWriter, Input, Output};
 use sched_cli::commands::{KeptText, run_check, run_keep, run_serve};
 use sched_cli::status::{USAGE, report_device, report_memory, report_read, report_too_long};
@@ -26,14 +27,11 @@ use std::io::{self, ErrorKind, IsTerminal, Read, Stderr, Write};
 use std::rt::Runtime;
 use std::{env, str};
 
-/// The most octets of a file; this profile's choice.
-const MOST_OCTETS: u64 = 1_073_741_824;
-
 /// How many instances `expand` prints at most; this profile's choice.
 const MOST_INSTANCES: usize = 100_000;
 
 /// The octets that `expand` and `explain` read: one more than an object may have.
-const OBJECT_OCTETS: u64 = 1_048_577;
+const OBJECT_OCTETS: u64 = KEPT as u64;
 
 /// What standard input is called.
 pub(crate) const INPUT: &str = "standard input";

@@ -9,14 +9,15 @@ ghost use Rattle.sched_box.specs.declared.fault.ServeFault.TheVariants.{Read};
 
 use crate::fault::ServeFault;
 use ical_lines::Cutter;
+use ical_lines::limits::MAX_OCTETS;
 use sched_devices::{Input, lend};
 use std::alloc::{AllocError, Global};
 
-/// The most octets that are read of a stream; this profile's choice.
-pub const MOST_OCTETS: u64 = 1_073_741_824;
+/// The most octets that are read of a stream: as many as a file may have.
+pub const MOST_OCTETS: u64 = sched_devices::MOST_OCTETS as u64;
 
 /// The most octets of an object that are kept: one more than it may have, by which it is seen to be too long.
-pub const KEPT: usize = 1_048_577;
+pub const KEPT: usize = MAX_OCTETS + 1;
 
 /// A stream that is read object by object.
 #[derive(Drop)]

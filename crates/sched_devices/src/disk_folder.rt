@@ -9,7 +9,7 @@ ghost use Rattle.sched_devices.specs.Folder.{HasCause};
 ghost use Rattle.sched_devices.specs.declared.folder.FolderFault.TheVariants.{Device, Missing, Exists};
 
 use crate::failure::{Explained, Failure, Failures};
-use crate::folder::{Folder, FolderFault};
+use crate::folder::{Folder, FolderFault, MOST_OCTETS};
 use crate::input::{DeviceReader, Input, lend};
 use crate::output::write_whole;
 use std::alloc::{AllocError, Global};
@@ -18,9 +18,6 @@ use std::io::{self, ErrorKind};
 
 /// The temporary's name. It begins with a dot, as no name of a message or of an answer does.
 const TEMPORARY: &str = ".roombox-temporary";
-
-/// The most octets that are read of a file.
-const MOST_OCTETS: usize = 1_073_741_824;
 
 /// A folder of the file system, of which nothing is known: another program may change it at any time. What it answers is what the
 /// system says, and each answer that isn't whole is counted as a failure, up to the greatest u64. Of the last one it remembers of

@@ -8,6 +8,9 @@ ghost use Rattle.sched_devices.specs.declared.folder.FolderFault.TheVariants.{De
 use std::alloc::{AllocError, AllocFailed, Global};
 use thiserror::Error;
 
+/// The most octets of a file that is read, and of a stream; this profile's choice.
+pub const MOST_OCTETS: usize = 1_073_741_824;
+
 /// Why a call of a folder gave nothing.
 #[derive(Clone, Copy, Debug, PartialEq, Eq, Drop, Error)]
 pub enum FolderFault {

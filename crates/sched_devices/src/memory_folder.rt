@@ -12,16 +12,13 @@ ghost use Rattle.sched_devices.specs.declared.folder.FolderFault.TheVariants.{De
 ghost use Rattle.std.proofs.Common.{inl};
 
 use crate::call_log::{Call, CallLog};
-use crate::folder::{Folder, FolderFault};
+use crate::folder::{Folder, FolderFault, MOST_OCTETS};
 use crate::memory_file::{
     MemoryFile, copied, file_named, files_left, has_file, names_of, names_synced, octets_of,
     with_file,
 };
 use crate::temporary_file::TemporaryFile;
 use std::alloc::{AllocError, Global};
-
-/// The longest file that is read, in octets.
-const MOST_OCTETS: usize = 1_073_741_824;
 
 /// A folder in memory. A call that is refused memory changes nothing of what it holds, and isn't among its calls.
 #[derive(Drop)]

@@ -9,12 +9,9 @@ ghost use Rattle.sched_devices.specs.declared.folder.FolderFault.TheVariants.{De
 use crate::door::Door;
 use crate::fault::DoorFault;
 use ical_tree::Component;
-use sched_devices::{Explained, Failure, Folder, FolderFault, Input};
+use sched_devices::{Explained, Failure, Folder, FolderFault, Input, MOST_OCTETS};
 use std::alloc::{AllocError, Global};
 use std::io::ErrorKind;
-
-/// The most octets that a file has; this profile's choice.
-const MOST_OCTETS: usize = 1_073_741_824;
 
 /// An inbox whose files are read through the door. It doesn't tell what it holds, and counts its own failures: those of the inbox, and the
 /// files that would get longer than a file may be.

@@ -7,10 +7,11 @@ ghost use Rattle.sched_doors.specs.Pieces.{BeginsLast, KeepsUnlessRead, IsCauseO
 use crate::fault::DoorFault;
 use crate::place::FrontCutter;
 use ical_lines::Cutter;
+use ical_lines::limits::MAX_OCTETS;
 use sched_devices::{Input, lend};
 
-/// The most octets of a message; this profile's choice. What is longer isn't looked at.
-pub(crate) const MOST_OCTETS: usize = 1_048_576;
+/// The most octets of an object that is looked at: as many as a message may have.
+pub(crate) const MOST_OCTETS: usize = MAX_OCTETS;
 
 /// The most octets that are taken of the reader at once.
 pub(crate) const PIECE: usize = 65_536;
