@@ -4,7 +4,7 @@
 ghost use Rattle.std.specs.Prelude.{◌≡◌, ◌≤◌, ◌⊎◌, ◌∷◌, [], ℕ, List, true, false, None, Some, length, map, option_map, string_bytes, IfOk, OnOk, OnErr, IsErrOf, IsNone};
 ghost use Rattle.std.specs.Option.{option_or};
 ghost use Rattle.profile.specs.streams.Folders.{AreNames, AreNamesSynced, AreSame, Elapses, Image, MayBePublished, with_files};
-ghost use Rattle.sched_devices.specs.Folder.{HasCause, IsKept, IsPublished, IsUnpublished};
+ghost use Rattle.sched_devices.specs.Folder.{HasCause, IsKept, IsPublished, IsUnpublished, StaysAsOpen};
 ghost use Rattle.sched_devices.specs.Memory.{AreApart, HeldFile, LeftSince, MayLeave, file_named, held_may_stay, image_of, left_under, no_temporary, only_left};
 ghost use Rattle.sched_devices.specs.Noted.{IsNoted, IsPublishOf, IsReadOf, IsTooLong};
 ghost use Rattle.sched_devices.specs.declared.call_log.Call.TheVariants.{Names, WriteTemp, SyncTemp, SyncDir};
@@ -187,6 +187,7 @@ impl Folder for MemoryFolder {
     fn names(&mut self, alloc: Global) -> Result<Vec<String>, FolderFault>
         ensures names { IfOk result (λ names. AreNames (image_of self.old.files.items) (map string_bytes names.items)) }
         ensures kept { IsKept (λ _. true) (λ (f : MemoryFolder). image_of f.files.items) (λ f. f.temporary) (λ f. MayLeave f.files.items) self.old self.new }
+        ensures still { StaysAsOpen (λ (f : MemoryFolder). MayLeave f.files.items) self.old self.new }
         ensures time { Elapses (length self.old.past.items) (length self.new.past.items) (LeftSince self.old.past.items self.old.files.items) (LeftSince self.new.past.items self.new.files.items) (MayLeave self.new.files.items) }
         ensures not_missing { IsErrOf result Missing → ⊥ }
         ensures not_existing { IsErrOf result Exists → ⊥ }
@@ -203,6 +204,7 @@ impl Folder for MemoryFolder {
         ensures bytes { IfOk result (λ bytes. image_of self.old.files.items name.now ≡ Some bytes.items) }
         ensures few { IfOk result (λ bytes. length bytes.items ≤ 1_073_741_824) }
         ensures kept { IsKept (λ _. true) (λ (f : MemoryFolder). image_of f.files.items) (λ f. f.temporary) (λ f. MayLeave f.files.items) self.old self.new }
+        ensures still { StaysAsOpen (λ (f : MemoryFolder). MayLeave f.files.items) self.old self.new }
         ensures time { Elapses (length self.old.past.items) (length self.new.past.items) (LeftSince self.old.past.items self.old.files.items) (LeftSince self.new.past.items self.new.files.items) (MayLeave self.new.files.items) }
         ensures missing { IsErrOf result Missing → (image_of self.old.files.items name.now ≡ None) }
         ensures not_existing { IsErrOf result Exists → ⊥ }
