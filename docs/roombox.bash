@@ -21,7 +21,7 @@ _roombox() {
     check) options="--help" ;;
     expand) options="--limit --zone --help" ;;
     explain) options="--help" ;;
-    box) options="--report --adapt --zones --help" ;;
+    box) options="--report --compare --adapt --zones --help" ;;
     esac
     mapfile -t COMPREPLY < <(compgen -W "$options" -- "$word")
 }
