@@ -135,7 +135,6 @@ impl Scene {
         );
         said_text(alloc, status, errors.as_slice())
     }
-    }
 
     /// The status of the command with a report, and the lines of that, with ` / ` behind each.
     fn report_text(&mut self) -> Result<String, NoAnswer> {
