@@ -28,7 +28,7 @@ loop-text-preserved c =
     let text = c.in-Some.text.now in
     let more = cut_more c.loop-text.text-iterator c.next.new.self c.in-Some.text i.0 i.1 c.in-Some.ensures.steps in
     let next = next_text (IsRightText (property_name (property_said c.args.property)) (line_text c.args.line)) (texts_of (line_text c.args.line)) text i.2 i.0 more.0 i.3 more.1 i.4
-        c.in_ok-judge_text.ensures.sound in
+    c.in_ok-judge_text.ensures.sound in
     (more.0, more.2, i.2 ++ text ∷ [], next.0, next.1)
 
 pub returns-in_err-judge_text-clause-fault : goal.returns-in_err-judge_text-clause-fault
