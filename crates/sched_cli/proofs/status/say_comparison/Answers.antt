@@ -1,4 +1,4 @@
-use Rattle.std.proofs.Common.{◌≡◌, ◌∙◌, ◌+◌, ◌++◌, ◌∷◌, [], List, ℕ, Global, String, take, take_all, drop, codes, decimal, string_bytes, append_assoc, append-nil, take-append-drop, refl, ap, sym, subst, arith}
+use Rattle.std.proofs.Common.{◌≡◌, ◌∙◌, ◌+◌, ◌++◌, ◌∷◌, [], List, ℕ, Global, String, get_or, take, take_all, drop, codes, decimal, string_bytes, append_assoc, append-nil, take-append-drop, refl, ap, sym, subst, arith}
 use Rattle.std.proofs.KnownBytes.{Appends-nil, Appends-trans}
 use Rattle.std.proofs.lemmas.List.{drop_more, take_more}
 use Rattle.std.proofs.lemmas.List.Concat.{flat_map-append}
@@ -8,7 +8,7 @@ use Rattle.sched_cli.specs.Running.{counts_text, differs_text, found_text}
 use Rattle.sched_cli.proofs.Saying.{cut_says, put_says}
 use Rattle.sched_cli.proofs.status.say_comparison.Goals as goal
 
-line : String Global → List ℕ
+abbrev line : String Global → List ℕ
 line name = differs_text (string_bytes name)
 
 pub loop-name-init : goal.loop-name-init
@@ -19,8 +19,9 @@ loop-name-preserved g c =
     let names = c.args.found.now.differing.items in
     let i = c.loop-name.name-index in
     let name = c.name-item.result in
+    let item : name ≡ get_or names i name = subst (λ (xs : List (String Global)). name ≡ get_or xs i name) c.deref-name-items.ensures.value c.name-item.is in
     let front : flat_map line (take (i + 1) names) ≡ flat_map line (take i names) ++ line name =
-    ap (flat_map line) (take_more names i name (omega arith) ∙ ap (λ x. take i names ++ x ∷ []) (sym c.name-item.is)) ∙ flat_map-append line (take i names) (name ∷ []) ∙ ap (λ l. flat_map line (take i names) ++ l) (append-nil (line name)) in
+    ap (flat_map line) (take_more names i name (omega arith) ∙ ap (λ x. take i names ++ x ∷ []) (sym item)) ∙ flat_map-append line (take i names) (name ∷ []) ∙ ap (λ l. flat_map line (take i names) ++ l) (append-nil (line name)) in
     let said = subst (λ n. Appends (g.E.Output.contents c.loop-name.errors) (g.E.Output.contents c.say_differs.new.errors) (differs_text n)) c.as_str.ensures.value c.in_ok-say_differs.ensures in
     subst (Appends (g.E.Output.contents c.args.errors.now) (g.E.Output.contents c.say_differs.new.errors)) (sym front) (Appends-trans _ _ _ _ _ c.loop-name.invariant said)
 
@@ -30,8 +31,9 @@ returns-in_err-say_differs g c =
     let names = found.differing.items in
     let i = c.loop-name.name-index in
     let name = c.name-item.result in
+    let item : name ≡ get_or names i name = subst (λ (xs : List (String Global)). name ≡ get_or xs i name) c.deref-name-items.ensures.value c.name-item.is in
     let counts = counts_text found.files found.missing in
-    let split : names ≡ take i names ++ (name ∷ drop (i + 1) names) = sym (take-append-drop i names) ∙ ap (λ l. take i names ++ l) (drop_more names i name (omega arith) ∙ ap (λ x. x ∷ drop (i + 1) names) (sym c.name-item.is)) in
+    let split : names ≡ take i names ++ (name ∷ drop (i + 1) names) = sym (take-append-drop i names) ∙ ap (λ l. take i names ++ l) (drop_more names i name (omega arith) ∙ ap (λ x. x ∷ drop (i + 1) names) (sym item)) in
     let is : found_text found ≡ flat_map line (take i names) ++ (line name ++ (flat_map line (drop (i + 1) names) ++ counts)) =
     ap (λ l. flat_map line l ++ counts) split ∙ ap (λ l. l ++ counts) (flat_map-append line (take i names) (name ∷ drop (i + 1) names))
     ∙ append_assoc (flat_map line (take i names)) (line name ++ flat_map line (drop (i + 1) names)) counts ∙ ap (λ l. flat_map line (take i names) ++ l) (append_assoc (line name) (flat_map line (drop (i + 1) names)) counts) in
