@@ -1,4 +1,4 @@
-use Rattle.std.proofs.Common.{◌≡◌, ◌∙◌, ◌+◌, ◌++◌, ◌∷◌, [], List, ℕ, Global, String, get_or, take, take_all, drop, codes, decimal, string_bytes, append_assoc, append-nil, take-append-drop, refl, ap, sym, subst, arith}
+use Rattle.std.proofs.Common.{◌≡◌, ◌∙◌, ◌+◌, ◌++◌, ◌∷◌, [], List, ℕ, Global, String, true, get_or, take, take_all, drop, codes, decimal, string_bytes, append_assoc, append-nil, take-append-drop, refl, ap, sym, subst, arith}
 use Rattle.std.proofs.KnownBytes.{Appends-nil, Appends-trans}
 use Rattle.std.proofs.lemmas.List.{drop_more, take_more}
 use Rattle.std.proofs.lemmas.List.Concat.{flat_map-append}
@@ -37,7 +37,7 @@ returns-in_err-say_differs g c =
     let is : found_text found ≡ flat_map line (take i names) ++ (line name ++ (flat_map line (drop (i + 1) names) ++ counts)) =
     ap (λ l. flat_map line l ++ counts) split ∙ ap (λ l. l ++ counts) (flat_map-append line (take i names) (name ∷ drop (i + 1) names))
     ∙ append_assoc (flat_map line (take i names)) (line name ++ flat_map line (drop (i + 1) names)) counts ∙ ap (λ l. flat_map line (take i names) ++ l) (append_assoc (line name) (flat_map line (drop (i + 1) names)) counts) in
-    let cut = subst (λ n. (_ ≡ _) × ((m : ℕ) × Appends (g.E.Output.contents c.loop-name.errors) (g.E.Output.contents c.say_differs.new.errors) (take m (differs_text n)))) c.as_str.ensures.value c.in_err-say_differs.ensures in
+    let cut = subst (λ n. (g.E.Output.may_lose c.say_differs.new.errors ≡ true) × ((m : ℕ) × Appends (g.E.Output.contents c.loop-name.errors) (g.E.Output.contents c.say_differs.new.errors) (take m (differs_text n)))) c.as_str.ensures.value c.in_err-say_differs.ensures in
     cut_says _ _ _ _ (found_text found) (flat_map line (take i names)) (line name) (flat_map line (drop (i + 1) names) ++ counts) is c.loop-name.invariant cut
 
 pub returns-in_err-say_number : goal.returns-in_err-say_number
