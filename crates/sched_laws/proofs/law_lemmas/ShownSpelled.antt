@@ -50,13 +50,17 @@ few_more e masters y few (k, w, is) = omega (arith, few, w)
 all_differ : (events : List EventComponent) → length (filter is_master events) ≤ 1 → AllPairs ◌≢◌ (map (λ (e : EventComponent). e.written.recurrence) (filter is_override events)) → AreNamedFixed events
     → Pairwise SlotsDiffer events
 all_differ [] few differ fixed = tt
-all_differ (e ∷ es) few differ fixed = by (is_override e) refl
+all_differ (e ∷ es) few differ fixed = by (λ masters times. all_differ es masters times (λ x c. fixed x (in_tail e es x c))) (is_override e) refl
   where
+    Others : Type 0
+    Others =
+        length (filter is_master es) ≤ 1 → AllPairs ◌≢◌ (map (λ (x : EventComponent). x.written.recurrence) (filter is_override es)) → Pairwise SlotsDiffer es
+
     later_fixed : AreNamedFixed es
     later_fixed x c = fixed x (in_tail e es x c)
 
-    by : (o : Bool) → is_override e ≡ o → Pairwise SlotsDiffer (e ∷ es)
-    by true is =
+    by : Others → (o : Bool) → is_override e ≡ o → Pairwise SlotsDiffer (e ∷ es)
+    by others true is =
         let masters : length (filter is_master es) ≤ 1 = subst (λ (o : Bool). length (cond (not o) (e ∷ filter is_master es) (filter is_master es)) ≤ 1) is few in
         let times : AllPairs ◌≢◌ (e.written.recurrence ∷ map (λ (x : EventComponent). x.written.recurrence) (filter is_override es)) =
         subst (λ (o : Bool). AllPairs ◌≢◌ (map (λ (x : EventComponent). x.written.recurrence) (cond o (e ∷ filter is_override es) (filter is_override es)))) is differ in (
@@ -65,16 +69,16 @@ all_differ (e ∷ es) few differ fixed = by (is_override e) refl
               let there = in_mapped (λ (x : EventComponent). x.written.recurrence) (filter is_override es) y (in_filtered is_override es y c override) in
               head_pairs ◌≢◌ e.written.recurrence y.written.recurrence (map (λ (x : EventComponent). x.written.recurrence) (filter is_override es)) times there
               (one_time e y (fixed e (in_head e es)) (later_fixed y c) same),
-          all_differ es masters (tail_pairs ◌≢◌ e.written.recurrence (map (λ (x : EventComponent). x.written.recurrence) (filter is_override es)) times) later_fixed,
+          others masters (tail_pairs ◌≢◌ e.written.recurrence (map (λ (x : EventComponent). x.written.recurrence) (filter is_override es)) times),
         )
-    by false is =
+    by others false is =
         let masters : length (e ∷ filter is_master es) ≤ 1 = subst (λ (o : Bool). length (cond (not o) (e ∷ filter is_master es) (filter is_master es)) ≤ 1) is few in
         let times : AllPairs ◌≢◌ (map (λ (x : EventComponent). x.written.recurrence) (filter is_override es)) =
         subst (λ (o : Bool). AllPairs ◌≢◌ (map (λ (x : EventComponent). x.written.recurrence) (cond o (e ∷ filter is_override es) (filter is_override es)))) is differ in (
           λ y c same.
               let master : is_master y ≡ true = ap (λ (r : Option ℤ). not (is_some r)) (sym same) ∙ ap not is in
               few_more e (filter is_master es) y masters (in_filtered is_master es y c master),
-          all_differ es (omega (arith, masters)) times later_fixed,
+          others (omega (arith, masters)) times,
         )
 
 -- what is said again and placed has its slots
