@@ -4,6 +4,7 @@
 ghost use Rattle.std.specs.Prelude.{IfOk, MatchOption};
 ghost use Rattle.itip_messages.specs.Message.{IsSpelled};
 ghost use Rattle.profile.specs.streams.Schedules.{KeptTextsHold, KeptTextsSpell, SeenIsBooked, ShownIsClear, ShownIsConfirmed};
+ghost use Rattle.sched_laws.specs.Shown.{TextsAreCalendars};
 ghost use Rattle.profile.specs.streams.Worlds as worlds;
 ghost use Rattle.sched_box.specs.Schedules.{IsPlayed, IsUnread, IsWorldOf, PlaysTo};
 
@@ -60,6 +61,7 @@ pub fn play(
     ensures booked { IfOk result (λ world. (after : worlds.World) → PlaysTo rooms.now organisers.now steps.now after → IsWorldOf world after → SeenIsBooked after) }
     // What the texts of meetings confirm for a room, the room has confirmed, and no two of these instances clash.
     ensures confirmed { IfOk result (λ world. (after : worlds.World) → PlaysTo rooms.now organisers.now steps.now after → IsWorldOf world after → ShownIsConfirmed after) }
+    ensures read { IfOk result (λ world. (after : worlds.World) → PlaysTo rooms.now organisers.now steps.now after → IsWorldOf world after → TextsAreCalendars after) }
     ensures clear { IfOk result (λ world. (after : worlds.World) → PlaysTo rooms.now organisers.now steps.now after → IsWorldOf world after → ShownIsClear after) }
     // Each room's calendar spells what it has confirmed, and its certificate holds for it.
     ensures spells { IfOk result (λ world. (after : worlds.World) → PlaysTo rooms.now organisers.now steps.now after → IsWorldOf world after → KeptTextsSpell after) }

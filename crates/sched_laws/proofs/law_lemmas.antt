@@ -14,4 +14,7 @@ pub mod Booked
 pub mod SaidAgain
 pub mod ShownTexts
 pub mod ShownInstances
+pub mod RoomMeant
+pub mod Placing
+pub mod ShownSpelled
 pub mod EffectOrNone

@@ -4,6 +4,7 @@ ghost use Rattle.std.specs.Prelude.{◌≡◌, ℕ, ℤ, List};
 ghost use Rattle.profile.specs.events.EventComponents.{Store};
 ghost use Rattle.profile.specs.events.Messages.{Message, SpellsMessage};
 ghost use Rattle.profile.specs.streams.Schedules.{KeptTextsHold, KeptTextsSpell, SeenIsBooked, ShownIsClear, ShownIsConfirmed};
+ghost use Rattle.sched_laws.specs.Shown.{TextsAreCalendars};
 ghost use Rattle.profile.specs.streams.Streams.{AreInZones, ZonedRoom};
 ghost use Rattle.profile.specs.streams.Worlds.{Delivers, DeliversNothing, OrganiserSends, Plays, Step, StoresNothing, World, new_world};
 ghost use Rattle.sched_laws.specs.Law.{Laws};
@@ -23,6 +24,7 @@ use room_books::{answers_name_texts, kept_texts_pass, kept_texts_spell, runs_sta
 pub fn schedules_hold()
     ensures booked { (rooms : List ZonedRoom) (organisers : List (List ℕ)) (steps : List Step) (world : World) → AreInZones rooms → Plays steps (new_world rooms organisers) world → SeenIsBooked world }
     ensures confirmed { (rooms : List ZonedRoom) (organisers : List (List ℕ)) (steps : List Step) (world : World) → AreInZones rooms → Plays steps (new_world rooms organisers) world → ShownIsConfirmed world }
+    ensures read { (rooms : List ZonedRoom) (organisers : List (List ℕ)) (steps : List Step) (world : World) → AreInZones rooms → Plays steps (new_world rooms organisers) world → TextsAreCalendars world }
     ensures clear { (rooms : List ZonedRoom) (organisers : List (List ℕ)) (steps : List Step) (world : World) → AreInZones rooms → Plays steps (new_world rooms organisers) world → ShownIsClear world }
     ensures spells { (rooms : List ZonedRoom) (organisers : List (List ℕ)) (steps : List Step) (world : World) → AreInZones rooms → Plays steps (new_world rooms organisers) world → KeptTextsSpell world }
     ensures kept { (rooms : List ZonedRoom) (organisers : List (List ℕ)) (steps : List Step) (world : World) → AreInZones rooms → Plays steps (new_world rooms organisers) world → KeptTextsHold world }

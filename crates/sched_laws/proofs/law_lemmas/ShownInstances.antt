@@ -65,7 +65,7 @@ rule_there event b of = and_from (is_master event) (is_some event.rule) of.maste
 -- of a text whose events are these in the zone of a room
 module _ (laws : Laws) (rooms organisers : List (List ℕ)) (world : World) (sound : IsSound rooms organisers world) (octets : List ℕ) (text : IsShownText world octets)
     (room : Hosted) (there : Contains world.rooms room) (events : List EventComponent) (each : AllZip (IsPlaced room.zone) text.shown events)
-    (said placed : EventComponent) (is_placed : IsPlaced room.zone said placed) (o : IsOfBooked world octets text room said) (b : Instance) where
+    (said placed : EventComponent) (is_placed : IsPlaced room.zone said placed) (o : IsOfBooked world octets text room said) where
   abbrev answer : PartAnswer
   answer = o.booked.answer
 
@@ -88,99 +88,101 @@ module _ (laws : Laws) (rooms organisers : List (List ℕ)) (world : World) (sou
       placed_there room.zone o.asked o.placed (again_fixed HasNoAnswer text.stored.revision o.event o.asked o.sent o.fixed) o.is_placed ∙ o.sent.recurrence
 
   -- what the room was asked takes place as what is shown does
-  alike : AreAlike o.placed placed
+  pub alike : AreAlike o.placed placed
   alike =
       let clock = room_clock room.words room.zone (sound.in_zones room there) in
       placed_twice room.zone clock.steady.meaning o.asked said o.placed placed o.is_placed is_placed
       (said_twice HasNoAnswer IsAnswered text.stored.revision o.event o.asked said o.sent o.again) (slot_of_placed ∙ sym slot_of_asked)
 
-  -- ---- nothing hides it
+  -- one of its instances
+  module _ (b : Instance) where
+    -- ---- nothing hides it
 
-  -- another event of the store in its slot, which replaces it in the text
-  replaced : placed.recurrence ≡ None → IsInstance (alone placed) b → (other : EventComponent) → Contains text.stored.events other → other.recurrence ≡ Some b.key.slot
-      → IsReplacedAmong events placed b.start
-  replaced none is other among slot =
-      let Again : EventComponent → EventComponent → Type 0 = IsSaidAgain IsAnswered text.stored.revision in
-      let (override, shown, again) = zip_with Again text.stored.events text.shown other text.each among in
-      let (here, found, of) = zip_with (IsPlaced room.zone) text.shown events override each shown in
-      let meeting = stored_meeting rooms organisers world sound octets text in
-      let own = ap meeting_said is_placed.is ∙ meeting_again IsAnswered text.stored.revision o.event said o.again in
-      let its = ap meeting_said of.is ∙ meeting_again IsAnswered text.stored.revision other override again in
-      let its_slot = placed_there room.zone override here (again_fixed IsAnswered text.stored.revision other override again (meeting.fixed other among)) of in
-      let start : b.key.slot ≡ b.start = ap (λ (k : Key). k.slot) (master_alone placed b none is).key in
-      record {
-        override = here;
-        among = (found, its ∙ meeting.are.of_it other among ∙ sym (meeting.are.of_it o.event o.among) ∙ sym own);
-        is = its_slot ∙ again.recurrence ∙ slot ∙ ap Some start;
-      }
+    -- another event of the store in its slot, which replaces it in the text
+    replaced : placed.recurrence ≡ None → IsInstance (alone placed) b → (other : EventComponent) → Contains text.stored.events other → other.recurrence ≡ Some b.key.slot
+        → IsReplacedAmong events placed b.start
+    replaced none is other among slot =
+        let Again : EventComponent → EventComponent → Type 0 = IsSaidAgain IsAnswered text.stored.revision in
+        let (override, shown, again) = zip_with Again text.stored.events text.shown other text.each among in
+        let (here, found, of) = zip_with (IsPlaced room.zone) text.shown events override each shown in
+        let meeting = stored_meeting rooms organisers world sound octets text in
+        let own = ap meeting_said is_placed.is ∙ meeting_again IsAnswered text.stored.revision o.event said o.again in
+        let its = ap meeting_said of.is ∙ meeting_again IsAnswered text.stored.revision other override again in
+        let its_slot = placed_there room.zone override here (again_fixed IsAnswered text.stored.revision other override again (meeting.fixed other among)) of in
+        let start : b.key.slot ≡ b.start = ap (λ (k : Key). k.slot) (master_alone placed b none is).key in
+        record {
+          override = here;
+          among = (found, its ∙ meeting.are.of_it other among ∙ sym (meeting.are.of_it o.event o.among) ∙ sym own);
+          is = its_slot ∙ again.recurrence ∙ slot ∙ ap Some start;
+        }
 
-  -- a part of its slot that is older than the Whole isn't in the view
-  older_unseen : (other : Part) → is_whole part ≡ true → other.slot ≡ At b.key.slot → same_meeting part other ≡ true → other.revision.sequence < part.revision.sequence → in_view taken other ≡ true → ⊥
-  older_unseen other whole slot same less viewed =
-      let greatest = (and_parts (is_greatest taken part) (list_all (λ w. implies (is_greatest taken w) (leaves_in_view w part)) taken) o.booked.viewed).0 in
-      let all = (and_parts (is_greatest taken other) (list_all (λ w. implies (is_greatest taken w) (leaves_in_view w other)) taken) viewed).1 in
-      let given = sound.given room there answer o.booked.given in
-      let leaves : leaves_in_view part other ≡ true = implies_at _ _ (all_at (λ w. implies (is_greatest taken w) (leaves_in_view w other)) taken part all given.taken) greatest in
-      let no_whole : is_whole other ≡ false = ap (λ (s : Slot). is_eq (slot_cmp s Whole)) slot in
-      elim (or_cases (is_whole other) (implies (is_whole part && same_meeting part other) (stays_beside part other)) leaves) [
-        | inl itself ↦ true≢false (sym itself ∙ no_whole)
-        | inr stays ↦
-            let beside = implies_at (is_whole part && same_meeting part other) (stays_beside part other) stays (and_from _ _ whole same) in
-            let lower : stays_beside part other ≡ false = ap (λ r. is_gt r || (is_eq r && not (is_cancelled part))) (older_less other.revision part.revision less) in
-            true≢false (sym beside ∙ lower)
-      ]
+    -- a part of its slot that is older than the Whole isn't in the view
+    older_unseen : (other : Part) → is_whole part ≡ true → other.slot ≡ At b.key.slot → same_meeting part other ≡ true → other.revision.sequence < part.revision.sequence → in_view taken other ≡ true → ⊥
+    older_unseen other whole slot same less viewed =
+        let greatest = (and_parts (is_greatest taken part) (list_all (λ w. implies (is_greatest taken w) (leaves_in_view w part)) taken) o.booked.viewed).0 in
+        let all = (and_parts (is_greatest taken other) (list_all (λ w. implies (is_greatest taken w) (leaves_in_view w other)) taken) viewed).1 in
+        let given = sound.given room there answer o.booked.given in
+        let leaves : leaves_in_view part other ≡ true = implies_at _ _ (all_at (λ w. implies (is_greatest taken w) (leaves_in_view w other)) taken part all given.taken) greatest in
+        let no_whole : is_whole other ≡ false = ap (λ (s : Slot). is_eq (slot_cmp s Whole)) slot in
+        elim (or_cases (is_whole other) (implies (is_whole part && same_meeting part other) (stays_beside part other)) leaves) [
+          | inl itself ↦ true≢false (sym itself ∙ no_whole)
+          | inr stays ↦
+              let beside = implies_at (is_whole part && same_meeting part other) (stays_beside part other) stays (and_from _ _ whole same) in
+              let lower : stays_beside part other ≡ false = ap (λ r. is_gt r || (is_eq r && not (is_cancelled part))) (older_less other.revision part.revision less) in
+              true≢false (sym beside ∙ lower)
+        ]
 
-  not_hidden : IsInstanceAmong events placed b → is_hidden taken part b ≡ false
-  not_hidden is = false_from_ne_true (is_hidden taken part b) (λ hidden.
-      let at_slot = record part { slot = At b.key.slot } in
-      let (whole, some) = and_parts (is_whole part) (list_any (λ other. in_view taken other && same_place other at_slot) taken) hidden in
-      let (other, among, both) = any_at (λ other. in_view taken other && same_place other at_slot) taken some in
-      let (viewed, place) = and_parts (in_view taken other) (same_place other at_slot) both in
-      let p = place_there other at_slot place in
-      let facts = claim_facts text.host.address text.stored room.address room.zone answer.claim o.booked.of_store in
-      let uid = facts.of_uid ∙ (last_among text.uid text.host.book text.stored text.last).1 in
-      let none : o.event.recurrence ≡ None = whole_none o.event (sym o.booked.of_slot ∙ slot_same part.slot Whole (is_eq_true (slot_cmp part.slot Whole) whole)) in
-      let master : placed.recurrence ≡ None = slot_of_placed ∙ none in
-      elim (of_meeting laws rooms organisers world sound text.host text.hosted room there text.uid text.stored text.last o.named o.booked.of_store.alive other among (p.organiser ∙ facts.of_organiser) (p.uid ∙ uid)) [
-        | inl (claim, same, of) ↦
-            let its = claim_facts text.host.address text.stored room.address room.zone claim of in
-            let slot : slot_of its.event ≡ At b.key.slot = sym its.of_slot ∙ ap (λ (q : Part). q.slot) same ∙ p.slot in
-            is.shown (is_a_master placed master) (replaced master is.is its.event its.among (at_instant its.event b.key.slot slot))
-        | inr less ↦
-            older_unseen other whole p.slot (meeting_from part other (sym p.organiser) (sym p.uid))
-            (subst (λ (r : Revision). other.revision.sequence < r.sequence) (sym facts.of_revision) less) viewed
-      ])
+    not_hidden : IsInstanceAmong events placed b → is_hidden taken part b ≡ false
+    not_hidden is = false_from_ne_true (is_hidden taken part b) (λ hidden.
+        let at_slot = record part { slot = At b.key.slot } in
+        let (whole, some) = and_parts (is_whole part) (list_any (λ other. in_view taken other && same_place other at_slot) taken) hidden in
+        let (other, among, both) = any_at (λ other. in_view taken other && same_place other at_slot) taken some in
+        let (viewed, place) = and_parts (in_view taken other) (same_place other at_slot) both in
+        let p = place_there other at_slot place in
+        let facts = claim_facts text.host.address text.stored room.address room.zone answer.claim o.booked.of_store in
+        let uid = facts.of_uid ∙ (last_among text.uid text.host.book text.stored text.last).1 in
+        let none : o.event.recurrence ≡ None = whole_none o.event (sym o.booked.of_slot ∙ slot_same part.slot Whole (is_eq_true (slot_cmp part.slot Whole) whole)) in
+        let master : placed.recurrence ≡ None = slot_of_placed ∙ none in
+        elim (of_meeting laws rooms organisers world sound text.host text.hosted room there text.uid text.stored text.last o.named o.booked.of_store.alive other among (p.organiser ∙ facts.of_organiser) (p.uid ∙ uid)) [
+          | inl (claim, same, of) ↦
+              let its = claim_facts text.host.address text.stored room.address room.zone claim of in
+              let slot : slot_of its.event ≡ At b.key.slot = sym its.of_slot ∙ ap (λ (q : Part). q.slot) same ∙ p.slot in
+              is.shown (is_a_master placed master) (replaced master is.is its.event its.among (at_instant its.event b.key.slot slot))
+          | inr less ↦
+              older_unseen other whole p.slot (meeting_from part other (sym p.organiser) (sym p.uid))
+              (subst (λ (r : Revision). other.revision.sequence < r.sequence) (sym facts.of_revision) less) viewed
+        ])
 
-  -- ---- so it is confirmed
+    -- ---- so it is confirmed
 
-  confirmed : is_confirmed taken answer ≡ true
-  confirmed = and_from _ _ o.booked.accepted o.booked.viewed
+    confirmed : is_confirmed taken answer ≡ true
+    confirmed = and_from _ _ o.booked.accepted o.booked.viewed
 
-  -- as a single
-  pub as_single : IsInstanceAmong events placed b → (IsOfSeries placed b → ⊥) → Confirms room.book b
-  as_single is apart =
-      let single : Contains answer.claim.singles b = (apart_alike o.placed placed alike answer.claim.singles o.singles).all b is.is apart in
-      inl (flat_from (left_of taken) (filter (is_confirmed taken) room.book.answers) answer b
-      (in_filtered (is_confirmed taken) room.book.answers answer o.booked.given confirmed)
-      (in_filtered (λ i. not (is_hidden taken part i)) answer.claim.singles b single (not_from_false _ (not_hidden is))))
+    -- as a single
+    pub as_single : IsInstanceAmong events placed b → (IsOfSeries placed b → ⊥) → Confirms room.book b
+    as_single is apart =
+        let single : Contains answer.claim.singles b = (apart_alike o.placed placed alike answer.claim.singles o.singles).all b is.is apart in
+        inl (flat_from (left_of taken) (filter (is_confirmed taken) room.book.answers) answer b
+        (in_filtered (is_confirmed taken) room.book.answers answer o.booked.given confirmed)
+        (in_filtered (λ i. not (is_hidden taken part i)) answer.claim.singles b single (not_from_false _ (not_hidden is))))
 
-  -- as one of a series
-  pub as_recurring : IsInstanceAmong events placed b → IsOfSeries placed b → Confirms room.book b
-  as_recurring is of = by answer.claim.series refl (rule_alike o.placed placed alike answer.claim.series o.series)
-    where
-      by : (series : Option Event) → answer.claim.series ≡ series → AreOfRule placed series → Confirms room.book b
-      by None e lacks = absurd (true≢false (sym (rule_there placed b of) ∙ lacks))
-      by (Some meeting) e has =
-          let series : Recurring = record { part = part; meeting = meeting } in
-          inr (record {
-            series = series;
-            among =
-                flat_from recurring_in (filter (is_confirmed taken) room.book.answers) answer series
-                (in_filtered (is_confirmed taken) room.book.answers answer o.booked.given confirmed)
-                (subst (λ (s : Option Event). Contains (option_to_list (option_map (λ m. record { part = part; meeting = m }) s)) series) (sym e) (in_head series []));
-            is = (has.1 b).1 (is.is, of);
-            shown = not_hidden is;
-          })
+    -- as one of a series
+    pub as_recurring : IsInstanceAmong events placed b → IsOfSeries placed b → Confirms room.book b
+    as_recurring is of = by answer.claim.series refl (rule_alike o.placed placed alike answer.claim.series o.series)
+      where
+        by : (series : Option Event) → answer.claim.series ≡ series → AreOfRule placed series → Confirms room.book b
+        by None e lacks = absurd (true≢false (sym (rule_there placed b of) ∙ lacks))
+        by (Some meeting) e has =
+            let series : Recurring = record { part = part; meeting = meeting } in
+            inr (record {
+              series = series;
+              among =
+                  flat_from recurring_in (filter (is_confirmed taken) room.book.answers) answer series
+                  (in_filtered (is_confirmed taken) room.book.answers answer o.booked.given confirmed)
+                  (subst (λ (s : Option Event). Contains (option_to_list (option_map (λ m. record { part = part; meeting = m }) s)) series) (sym e) (in_head series []));
+              is = (has.1 b).1 (is.is, of);
+              shown = not_hidden is;
+            })
 
 -- ---- what a text confirms
 

@@ -18,7 +18,7 @@ use Rattle.profile.specs.series.Zones.{Zone}
 use Rattle.profile.specs.streams.Schedules.{IsText}
 use Rattle.profile.specs.streams.Streams.{AsksFor, Hosted, HostedOrganiser}
 use Rattle.profile.specs.streams.Worlds.{World}
-use Rattle.profile.specs.text.Lines.{logical_lines}
+use Rattle.profile.specs.text.Lines.{logical_lines, reads_as_lines}
 use Rattle.profile.specs.text.Trees.{Tree, vevents}
 use Rattle.cal_events.proofs.shared_lemmas.SeriesLemmas.{zip_back}
 use Rattle.itip_messages.specs.SentLaw.{HasAnswered, IsSaidAgain, IsSentAs}
@@ -42,6 +42,10 @@ pub record IsShownText (world : World) (octets : List ℕ) : Type 0 where
   pub last : last_store uid host.book ≡ Some stored
   pub shown : List EventComponent
   pub each : AllZip (IsSaidAgain (HasAnswered host.book stored) stored.revision) stored.events shown
+  pub lines : reads_as_lines false octets ≡ true
+  pub own_tree : Tree
+  pub object : IsCalendarText own_tree octets
+  pub says : AllZip (SaysEventComponent own_tree None) (vevents own_tree) shown
   pub only : (zone : Option Zone) (tree : Tree) (events : List EventComponent) → IsCalendarText tree octets → SayEventsIn zone tree events → AllZip (IsPlaced zone) shown events
 
 -- what lines say in a room is what they say, placed there
@@ -75,6 +79,10 @@ shown_text laws rooms organisers world sound octets text =
       last = last;
       shown = calendar.shown;
       each = calendar.each;
+      lines = calendar.lines;
+      own_tree = calendar.tree;
+      object = calendar.object;
+      says = calendar.says;
       only = λ zone tree events object says.
           let same : tree ≡ calendar.tree = laws.tree 7 7 (logical_lines octets) tree calendar.tree object.spelled calendar.object.spelled in
           placed_each laws zone calendar.tree (vevents calendar.tree) calendar.shown events calendar.says (subst (λ (t : Tree). SayEventsIn zone t events) same says);

@@ -67,7 +67,7 @@ placed_there zone event placed f p =
 
 -- ---- one event for a slot
 
-same_written : (a b : Option Time) → ((time : Time) → a ≡ Some time → time.form ≡ Fixed) → ((time : Time) → b ≡ Some time → time.form ≡ Fixed)
+pub same_written : (a b : Option Time) → ((time : Time) → a ≡ Some time → time.form ≡ Fixed) → ((time : Time) → b ≡ Some time → time.form ≡ Fixed)
     → option_map (λ (time : Time). time.instant) a ≡ option_map (λ (time : Time). time.instant) b → a ≡ b
 same_written None None f g same = refl
 same_written None (Some b) f g same = cc

@@ -14,6 +14,10 @@ pub returns-clause-confirmed : goal.returns-clause-confirmed
 returns-clause-confirmed c after plays is =
     c.schedules_hold.ensures.confirmed (map zoned_room c.args.rooms.now) (map address_octets c.args.organisers.now) (map step_said c.args.steps.now) after (in_zones c.args.rooms.now) plays
 
+pub returns-clause-read : goal.returns-clause-read
+returns-clause-read c after plays is =
+    c.schedules_hold.ensures.read (map zoned_room c.args.rooms.now) (map address_octets c.args.organisers.now) (map step_said c.args.steps.now) after (in_zones c.args.rooms.now) plays
+
 pub returns-clause-clear : goal.returns-clause-clear
 returns-clause-clear c after plays is =
     c.schedules_hold.ensures.clear (map zoned_room c.args.rooms.now) (map address_octets c.args.organisers.now) (map step_said c.args.steps.now) after (in_zones c.args.rooms.now) plays
