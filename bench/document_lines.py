@@ -1,4 +1,4 @@
-"""Counts the lines of docs/*.md and of README.md that people write; ends with 1 where they are more than 2,000, or a line is too wide.
+"""Counts the lines of docs/*.md and of README.md that people write; ends with 1 where a line is too wide.
 
     python3 bench/document_lines.py
 
@@ -11,7 +11,7 @@ import sys
 
 from repository import ROOT
 
-MOST_LINES, MOST_COLUMNS = 2000, 120
+MOST_COLUMNS = 120
 BEGIN, END = "<!-- table: ", "<!-- end of table -->"
 
 
@@ -44,9 +44,7 @@ def main():
     print(f"{'all':<24}{whole[0]:>9,}{whole[1]:>12,}")
     for line in wide:
         print(line)
-    if whole[0] > MOST_LINES:
-        print(f"more than {MOST_LINES:,} lines")
-    return int(whole[0] > MOST_LINES or bool(wide))
+    return int(bool(wide))
 
 
 if __name__ == "__main__":

@@ -531,9 +531,11 @@ def listed_statuses():
 def said_as_listed(ended, case):
     """Whether standard error has what the guide says of the status."""
     reason = rb"(roombox: [\x20-\x7e]+\n)?"
-    forms = {2: rb"error: .*", 3: rb"roombox: (refused \d+\n" + reason + rb"|too long\n|differs [\x21-\x7e]+\n)", 4: rb"roombox: device\n" + reason, 5: rb"roombox: memory\n"}
-    lines = rb"(roombox: object \d+: [\x20-\x7e]*\n)*" if "--report" in case.words else rb""
+    forms = {2: rb"error: .*", 3: rb"roombox: (refused \d+\n" + reason + rb"|too long\n|differs [\x21-\x7e]+\n|no event names [\x21-\x7e]+\n)", 4: rb"roombox: device\n" + reason, 5: rb"roombox: memory\n"}
+    lines = rb"(roombox: left alone: [\x20-\x7e]*\n)*(roombox: object \d+: [\x20-\x7e]*\n)*" if "--report" in case.words else rb""
     counts = rb"roombox: \d+ objects?, [^\n]*\n" if "--report" in case.words and case.words[:1] != ["adapt"] else rb""
+    if case.words[:1] == ["agenda"]:
+        counts = rb"(roombox: (1 event names [\x21-\x7e]+ and isn't|\d+ events name [\x21-\x7e]+ and aren't) accepted\n)?"
     return re.fullmatch(lines + forms.get(ended.status, counts), ended.said, re.DOTALL)
 
 
