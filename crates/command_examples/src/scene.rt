@@ -5,7 +5,7 @@
 //! - `fail-in K`, `fail-out K`: the K-th call of the folder fails; `half-out K`: it is done, and fails then; `stop-in K`, `stop-out K`: the machine
 //!   stops at it; `failed-always`: the outbox is empty and has failed as often as a count goes;
 //! - `run`: what comes of a run; `runs`: how many files one finds, or the next where it finds no memory; `command`: the status of the command and
-//!   what it says; `report`: the status of the command with a report, and the lines of that; `compare`: what a comparison finds;
+//!   what it says; `compare`: what a comparison finds;
 //!   `compare-command`: the status of its command and what it says; `has NAME FILES`: whether the outbox holds these octets there; `names`: its
 //!   names; `calls`: its calls so far;
 //!   `restart kept FILES`, `restart lost FILES`: the machine starts again, names that weren't synced are there or not, and what wasn't synced has
@@ -18,8 +18,8 @@ use example_cases::spelled::octets_of;
 use example_cases::words::count;
 use example_cases::{Answers, NoAnswer};
 use sched_box::{BoxFault, BoxReport, Config, compare_box, run_box};
-use sched_cli::{Log, run_compare, run_folders, run_folders_report};
-use sched_devices::{DeviceWriter, Folder, FolderFault, MemoryFolder};
+use sched_cli::{run_compare, run_folders};
+use sched_devices::{Folder, FolderFault, MemoryFolder};
 use std::alloc::Global;
 use std::rt::Files;
 
@@ -55,7 +55,6 @@ impl Scene {
             "run" => answers.add(self.run_text()?.as_str())?,
             "runs" => answers.add(self.runs_text()?.as_str())?,
             "command" => answers.add(self.command_text()?.as_str())?,
-            "report" => answers.add(self.report_text()?.as_str())?,
             "compare" => answers.add(self.compare_text()?.as_str())?,
             "compare-command" => answers.add(self.compare_command_text()?.as_str())?,
             "names" => answers.add(self.names()?.as_str())?,
@@ -134,30 +133,6 @@ impl Scene {
             &mut errors,
         );
         said_text(alloc, status, errors.as_slice())
-    }
-
-    /// The status of the command with a report, and the lines of that, with ` / ` behind each.
-    fn report_text(&mut self) -> Result<String, NoAnswer> {
-        let alloc = self.alloc;
-        let mut errors = Vec::new(alloc);
-        let mut lines = Vec::new(alloc);
-        let mut log = Log::new(alloc, DeviceWriter::new(&mut lines));
-        let status = run_folders_report(
-            alloc,
-            self.config.as_slice(),
-            &mut self.inbox,
-            &mut self.outbox,
-            &mut log,
-            &mut errors,
-        );
-        let mut shown = Vec::new(alloc);
-        for line in lines.split(|octet| *octet == b'\n') {
-            if !line.is_empty() {
-                shown.extend_from_slice(line)?;
-                shown.extend_from_slice(b" / ")?;
-            }
-        }
-        status_text(alloc, status, shown.as_slice())
     }
 
     /// What a comparison finds, in words.
@@ -241,15 +216,6 @@ impl Scene {
         self.outbox = self.outbox.restart(how == "lost", torn.as_slice())?;
         Ok(())
     }
-}
-
-/// A status and what was said, if something was.
-fn status_text(alloc: Global, status: u8, said: &[u8]) -> Result<String, NoAnswer> {
-    let said = String::from_utf8_lossy(alloc, said)?;
-    if said.is_empty() {
-        return Ok(format!(in alloc; "status {status}")?);
-    }
-    Ok(format!(in alloc; "status {status}, {}", said.trim_end())?)
 }
 
 /// A status, and the lines that were said, one after another.
