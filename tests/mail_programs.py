@@ -6,8 +6,7 @@ Each program gets an object as a file to attach and makes a mail of it in its ow
 the mail with the answer, shows what is in it for people, and saves its calendar part. An organiser of the box invites by mail too, and the answer that a
 person writes with such a program comes back. What is expected was written by hand, from RFC 5546 and docs/GUIDE.md.
 
-mutt and s-nail, which speak to a terminal, get one. They are Debian's packages mutt, s-nail and mblaze: if one isn't there, that is said and it isn't tried. It prints each case that
-fails, and ends with 1 if one did.
+mutt and s-nail, which speak to a terminal, get one. They are Debian's packages mutt, s-nail and mblaze.
 """
 
 import itertools
@@ -17,13 +16,13 @@ import re
 import select
 import shutil
 import subprocess
-import sys
 import tempfile
 import time
 from pathlib import Path
 
-from guide import Cases
-from mail import ANN, MEMORY, PROGRAM, ROOM, Post, calendar_of, reply
+from lib.cases import Cases
+from lib.program import MEMORY
+from mail import ANN, PROGRAM, ROOM, Post, calendar_of, reply
 
 WORDS = {**os.environ, "LC_ALL": "C.UTF-8", "TERM": "xterm", "LINES": "40", "COLUMNS": "100"}
 FOOTER = "This was written by the program that keeps the rooms. It reads invitations and nothing else."
@@ -303,14 +302,13 @@ def main():
     cases = Cases()
     programs = [name for name in PROGRAMS if shutil.which(TOOL[name])]
     for name in PROGRAMS.keys() - set(programs):
-        print(f"{name}: not tried")
+        cases.lacks(f"mails by {name}", TOOL[name])
     where = MEMORY if os.access(MEMORY, os.W_OK) else None
     with tempfile.TemporaryDirectory(dir=where) as parent:
         for part in (each_with_each, told, organisers):
             part(cases, parent, programs)
-    print(f"{cases.count} cases, {cases.failed} failed")
-    return 1 if cases.failed else 0
+    cases.end()
 
 
 if __name__ == "__main__":
-    sys.exit(main())
+    main()
