@@ -58,8 +58,12 @@ def seconds(moment):
 
 def moment(text):
     """The local time of a text, in seconds from 1970-01-01T00:00:00; of a date its first."""
-    digits = text.rstrip("Z")
-    return seconds(datetime.strptime(digits, "%Y%m%dT%H%M%S" if "T" in digits else "%Y%m%d"))
+    return seconds(local_of(text))
+
+
+def local_of(text):
+    """The local time of a text; of a date its first."""
+    return datetime.strptime(text.rstrip("Z"), "%Y%m%dT%H%M%S" if "T" in text else "%Y%m%d")
 
 
 def stamp(instant):
