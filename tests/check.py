@@ -29,6 +29,7 @@ LIMIT = {"alone": 1800, "servers": 3600, "browser": 3600, "long": 6 * 3600}
 # of each script its kind, the Python modules and the tools that it needs (`root` is the user), and its words; the slowest first, as they are begun in this order
 SCRIPTS = {
     "refused_memory": ("alone", "gcc", []),
+    "rows": ("alone", "", ["--jobs", "2"]),
     "box": ("alone", "root strace mount", []),
     "mail": ("alone", "strace", []),
     "certificate_by_dateutil": ("alone", "dateutil", []),
@@ -50,6 +51,7 @@ SCRIPTS = {
     "fuzz": ("alone", "", ["--seconds", "60"]),
     "real_program": ("alone", "", []),
     "meetings": ("alone", "", []),
+    "zone_table": ("alone", "", []),
     "mail_programs": ("servers", "mutt s-nail mblaze", []),
     "mail_server": ("servers", "root postfix", []),
     "calendar_server": ("servers", "root dateutil caldav icalendar", []),
