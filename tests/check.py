@@ -123,14 +123,14 @@ def counts():
     table, _, rest = rest.partition(END)
     lines, listed = [], []
     for line in table.splitlines():
-        columns = line.split(" | ")
-        name = re.match(r"\| `(\w+)", line)
+        columns = line.rstrip(" |").split(" | ")
+        name = re.match(r"\| `(\w+)` \|", line)
         listed += [name[1]] if name else []
         log = LOGS / f"{name[1]}.log" if name else None
         if log and log.exists():
             passed, said = verdict(0, log.read_text(errors="replace"))
-            columns[-1] = f"{said if passed else 'failed'} |"
-        lines.append(" | ".join(columns))
+            columns[-1] = said if passed else "failed"
+        lines.append(" | ".join(columns) + " |" if name else line)
     PAGE.write_text(head + BEGIN + "\n".join(lines) + "\n" + END + rest, encoding="utf-8")
     missing = SCRIPTS.keys() - set(listed)
     print(f"no row for {', '.join(sorted(missing))}" if missing else f"{len(listed)} rows")
