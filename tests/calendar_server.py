@@ -71,6 +71,7 @@ EVENTS {{
 
 # What the client python3-caldav shows of a calendar in 2033: starts and ends, and what each is called. `expand` lets the server say the instances.
 CLIENT = """
+import sys
 from datetime import date, datetime, timezone
 import caldav
 import icalendar
