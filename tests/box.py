@@ -23,9 +23,9 @@ from pathlib import Path
 
 from lib.cases import Cases
 from lib.program import MEMORY, of_arguments, without_reason
+from lib.streams import OWN_HEAD, crlf, folded
 from lib.streams import R1 as ROOM
 from lib.streams import ROOM as CONFIG
-from lib.streams import crlf
 
 PROGRAM = of_arguments()
 NOW = "20250102T000000Z"
@@ -45,17 +45,10 @@ def request(uid, start, *length, room=ROOM):
     return crlf("BEGIN:VCALENDAR", "VERSION:2.0", "METHOD:REQUEST", "BEGIN:VEVENT", *event, "END:VEVENT", "END:VCALENDAR")
 
 
-def folded(line):
-    """The line, of ASCII alone, in pieces of 75 octets at most; each but the first begins with a space."""
-    pieces = [line[:75]]
-    pieces += [" " + line[at:at + 74] for at in range(75, len(line), 74)]
-    return pieces
-
-
 def reply(uid, now, word, status):
     """What a room answers to such a request."""
-    event = [f"UID:{uid}", "SEQUENCE:0", f"DTSTAMP:{now}", "ORGANIZER:mailto:ann@example.com", f"ATTENDEE;PARTSTAT={word}:{ROOM}", *folded(f"REQUEST-STATUS:{status}")]
-    return crlf("BEGIN:VCALENDAR", "VERSION:2.0", "PRODID:-//iTIP room box//EN", "METHOD:REPLY", "BEGIN:VEVENT", *event, "END:VEVENT", "END:VCALENDAR")
+    event = [f"UID:{uid}", "SEQUENCE:0", f"DTSTAMP:{now}", "ORGANIZER:mailto:ann@example.com", f"ATTENDEE;PARTSTAT={word}:{ROOM}", f"REQUEST-STATUS:{status}"]
+    return folded([*OWN_HEAD, "METHOD:REPLY", "BEGIN:VEVENT", *event, "END:VEVENT", "END:VCALENDAR"]).decode()
 
 
 def accepted(uid, now=NOW):

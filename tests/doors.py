@@ -12,10 +12,10 @@ import tempfile
 import zoneinfo
 from pathlib import Path
 
-from dateutil.rrule import rrulestr
-
+from lib.calendars import expansion
 from lib.cases import Cases
 from lib.program import of_arguments
+from lib.zones import Known, Zone, moment, stamp
 
 FOLDER = Path(__file__).parent / "producers"
 # the objects of doors.txt
@@ -35,7 +35,7 @@ NAMES = {
     "EST": "America/New_York",  # vobject names it so
 }
 # khal states the change on each side of the start and no other: from this instant on its text says one offset for ever
-STATED = {"khal--03-weekly-endless.ics": (dt.datetime(2025, 11, 2, 6), dt.timedelta(hours=-5))}
+STATED = {"khal--03-weekly-endless.ics": (moment("20251102T060000Z"), -5 * 3600)}
 # refused without FILE: what they bear is no VTIMEZONE at all
 WITHOUT_ZONES = {"kde--07b-instance-moved.ics": "43", "sabre--02-single-tzid.ics": "43"}
 
@@ -79,17 +79,6 @@ def without_zones(octets):
 
 # ---- the objects of real programs
 
-def event_of(octets):
-    """The lines of the VEVENT: of each property its parameters and its value."""
-    lines = lines_of(octets)
-    event = lines[lines.index("BEGIN:VEVENT"):lines.index("END:VEVENT")]
-    properties = {}
-    for line in event:
-        name, _, rest = line.partition(";") if ";" in line.partition(":")[0] else line.partition(":")
-        properties.setdefault(name, []).append(line)
-    return properties
-
-
 def time_of(line):
     """The local time of a line, and the name of its zone: UTC for a time in UTC, and, as nothing else is said, for one without zone."""
     text = line.rpartition(":")[2]
@@ -100,23 +89,33 @@ def time_of(line):
     return dt.datetime.strptime(text.rstrip("Z"), FORM), name
 
 
+class Stated(Known):
+    """The clocks of a zone, but those of one offset from some local time on."""
+
+    def __init__(self, name, since, offset):
+        super().__init__(name)
+        self.since, self.stated = since, offset
+
+    def means(self, local):
+        return local - self.stated if local - self.stated >= self.since else super().means(local)
+
+
+class Names(dict):
+    """The clocks of the zones that the producers name."""
+
+    def __init__(self, file):
+        super().__init__()
+        self.file = file
+
+    def __missing__(self, name):
+        known = NAMES.get(name, name)
+        return Stated(known, *STATED[self.file]) if self.file in STATED else Known(known)
+
+
 def wanted_starts(file, octets):
     """The starts by zoneinfo, or by the producer's own text where that says otherwise."""
-    event = event_of(octets)
-    start, name = time_of(event["DTSTART"][0])
-    zone = zoneinfo.ZoneInfo(NAMES.get(name, name))
-    locals_ = [start] + [time_of(line)[0] for line in event.get("RDATE", [])]
-    if "RRULE" in event:
-        rule, _, until = event["RRULE"][0].removeprefix("RRULE:").partition(";UNTIL=")
-        last = dt.datetime.strptime(until, FORM + "Z") if until else END
-        last = last.replace(tzinfo=UTC).astimezone(zone).replace(tzinfo=None)
-        locals_ = rrulestr(rule, dtstart=start).between(start, last, inc=True)
-    instants = []
-    for local in locals_:
-        instant = local.replace(tzinfo=zone).astimezone(UTC).replace(tzinfo=None)
-        since, offset = STATED.get(file, (dt.datetime.max, None))
-        instants.append(local - offset if local - (offset or dt.timedelta()) >= since else instant)
-    return [instant.strftime(FORM + "Z") for instant in instants if instant < END]
+    found = [stamp(start) for start, _, _ in expansion(octets.decode(), Names(file), Zone(), int(MOST))]
+    return [start for start in found if start < END.strftime(FORM)]
 
 
 def producers(program, zones):

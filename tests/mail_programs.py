@@ -9,7 +9,6 @@ person writes with such a program comes back. What is expected was written by ha
 mutt and s-nail, which speak to a terminal, get one. They are Debian's packages mutt, s-nail and mblaze.
 """
 
-import itertools
 import os
 import pty
 import re
@@ -22,6 +21,8 @@ from pathlib import Path
 
 from lib.cases import Cases
 from lib.program import MEMORY
+from lib.streams import folded
+from lib.zones import vtimezone
 from mail import ANN, PROGRAM, ROOM, Post, calendar_of, reply
 
 WORDS = {**os.environ, "LC_ALL": "C.UTF-8", "TERM": "xterm", "LINES": "40", "COLUMNS": "100"}
@@ -35,22 +36,10 @@ LONG = "Büro für Räume, zweiter Stock, hinten links, neben der Treppe, die zu
 def object_of(method, uid, start, *lines, end="\r\n", organiser=ANN, room=ROOM, zone=()):
     event = ["BEGIN:VEVENT", f"UID:{uid}", "DTSTAMP:20250101T000000Z", f"ORGANIZER;CN=Ann Example:mailto:{organiser}", f'ATTENDEE;CUTYPE=ROOM;RSVP=TRUE;CN="{LONG}":mailto:{room}', start, *lines, "END:VEVENT"]
     named = ["BEGIN:VCALENDAR", "PRODID:-//a person//EN", "VERSION:2.0", f"METHOD:{method}", *zone, *event, "END:VCALENDAR"]
-    return "".join(line + end for line in itertools.chain(*map(folded, named)))
+    return folded(named).decode().replace("\r\n", end)
 
 
-def folded(line):
-    """In pieces of at most 75 octets, none of which parts a letter; each but the first begins with a space."""
-    pieces, piece = [], ""
-    for letter in line:
-        if len((piece + letter).encode()) > 75:
-            pieces.append(piece)
-            piece = " "
-        piece += letter
-    return [*pieces, piece]
-
-
-BERLIN = ["BEGIN:VTIMEZONE", "TZID:Europe/Berlin", "BEGIN:STANDARD", "DTSTART:19961027T030000", "TZOFFSETFROM:+0200", "TZOFFSETTO:+0100", "RRULE:FREQ=YEARLY;BYMONTH=10;BYDAY=-1SU", "END:STANDARD",
-          "BEGIN:DAYLIGHT", "DTSTART:19810329T020000", "TZOFFSETFROM:+0100", "TZOFFSETTO:+0200", "RRULE:FREQ=YEARLY;BYMONTH=3;BYDAY=-1SU", "END:DAYLIGHT", "END:VTIMEZONE"]
+BERLIN = vtimezone("Europe/Berlin")
 
 
 # ---- terminals
