@@ -24,7 +24,8 @@ from collections import Counter
 from math import gcd, lcm
 from pathlib import Path
 
-from lib.calendars import MOST, Calendar
+from lib import calendars
+from lib.calendars import MOST
 from lib.cases import Cases
 from lib.program import ROOT, checked, kept, of_arguments, run
 from lib.random_calendars import calendar_text, one_zone, request
@@ -68,7 +69,7 @@ def is_apart(arcs, m):
     return all(length <= m for _, length in arcs) and covered(pieces(arcs, m)) == sum(length for _, length in arcs)
 
 
-class Certified(Calendar):
+class Calendar(calendars.Calendar):
     """A calendar, with its certificate, and what is to be said of one."""
 
     def arcs(self, i, m):
@@ -240,7 +241,7 @@ class Walk:
 def compared(cases, program, name, stream, met):
     """The kept certificate is that of the kept calendar, and the checker says yes."""
     text, found = kept(program, stream), kept(program, stream, "--certificate")
-    wanted = Certified(text, R1).written()
+    wanted = Calendar(text, R1).written()
     cases.holds(name, (checked(program, text, found, R1)[:2], found), ((0, "yes\n"), wanted))
     met.update(it.split(" ")[0 if it.startswith("GROUP") else 3] for it in found.splitlines() if it.startswith(("GROUP", "PAIR")))
 
@@ -308,7 +309,7 @@ def strangers(cases, program, count, seed, met, worked=None):
     for number in range(count):
         chance = random.Random(f"strangers {seed} {number}")
         text = calendar_text(chance)
-        calendar = Certified(text, R1)
+        calendar = Calendar(text, R1)
         made_ones = chance.choice([1, 0.8])
         certificate = calendar.certificate(lambda i, j: strange(chance, calendar, i, j, made_ones), strange_groups(chance, calendar))
         verdict, _, most = calendar.judged(certificate)
@@ -325,7 +326,7 @@ def strangers(cases, program, count, seed, met, worked=None):
 def printed(mode, path, *rest):
     """What is asked of one calendar."""
     read = lambda name: Path(name).read_bytes().decode()
-    calendar = Certified(read(path), rest[0] if mode == "--of" and rest else R1)
+    calendar = Calendar(read(path), rest[0] if mode == "--of" and rest else R1)
     if mode == "--of":
         return calendar.written()
     if mode == "--residues":
