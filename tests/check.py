@@ -43,7 +43,7 @@ SCRIPTS = {
     "moved_box": ("alone", "root dateutil", []),
     "limits": ("alone", "", []),
     "organisers_by_model": ("alone", "", []),
-    "subscribers": ("alone", "khal icalendar vobject dateutil", []),
+    "subscribers": ("alone", "khal dateutil", []),
     "guide": ("alone", "bash awk groff", []),
     "installed": ("alone", "make dpkg-deb man systemd-analyze", []),
     "page": ("alone", "dateutil", []),
@@ -54,7 +54,7 @@ SCRIPTS = {
     "zone_table": ("alone", "", []),
     "mail_programs": ("servers", "mutt s-nail mblaze", []),
     "mail_server": ("servers", "root postfix", []),
-    "calendar_server": ("servers", "root dateutil caldav icalendar", []),
+    "calendar_server": ("servers", "root dateutil", []),
     "many_boxes": ("servers", "redis redis-server", []),
     "pictures": ("browser", "chromium", []),
     "schedules_by_model": ("long", "dateutil", ["bin/schedule_examples"]),
@@ -66,7 +66,7 @@ SCRIPTS = {
 # those that are another script with other words, and the programs that a tool's name stands for
 FILES = {"schedules_in_memory": "refused_memory", "counted_instances": "certificate_by_dateutil", "long_fuzz": "fuzz"}
 TOOLS = {"mblaze": "mshow", "postfix": "/usr/sbin/postfix"}
-MODULES = ("dateutil", "icalendar", "vobject", "caldav", "redis")
+MODULES = ("dateutil", "icalendar", "redis")
 
 
 def lacks(python, needed):
