@@ -14,7 +14,7 @@ COMPLETION = $(BELOW)/share/bash-completion/completions/roombox
 DOCUMENTS = $(BELOW)/share/doc/roombox
 DOCUMENT_FILES := README.md CHANGELOG.md $(wildcard docs/*.* docs/*/*.* examples/*.* examples/*/*.*)
 
-.PHONY: try run test check check-servers check-browser check-long counts attack bench fuzz man layout tables install uninstall deb clean
+.PHONY: try run test attack bench fuzz man layout tables install uninstall deb clean
 
 # Answers the first request in about 2 minutes. Nothing is proved this way.
 try:
@@ -37,31 +37,6 @@ FORCE:
 # The whole gate: every proof from nothing, the edits that must fail, the tests and the programs.
 test:
 	$(RT) ci
-
-# Every script of tests/ that needs the program alone, side by side: a line each, and 'N passed, M failed'. A script that lacks a tool says so, and has failed.
-# ONLY names some of them; PYTHON is one that has the modules. With CHECKED=out/try/roombox nothing is proved: that is built in minutes.
-PYTHON ?= python3
-CHECKED ?= bin/roombox
-check: $(CHECKED)
-	@$(PYTHON) tests/check.py $(CHECKED) $(ONLY)
-
-# Those that need a server of mails, calendars or logs, or mail programs; a browser; an hour, or the programs of the example crates.
-check-servers: $(CHECKED)
-	@$(PYTHON) tests/check.py $(CHECKED) --kind servers
-
-check-browser: $(CHECKED)
-	@$(PYTHON) tests/check.py $(CHECKED) --kind browser
-
-check-long: $(CHECKED) bin/worked_examples bin/schedule_examples bin/command_examples
-	@$(PYTHON) tests/check.py $(CHECKED) --kind long
-
-# What the last runs of these counted, into docs/ASSURANCE.md.
-counts:
-	@$(PYTHON) tests/check.py --counts
-
-# A program without proofs.
-out/try/%: $(shell find crates -name '*.rt')
-	@$(PYTHON) tests/tried.py $*
 
 # The tables of the documents that scripts make from the sources; with CHECK=--check they are only compared. Then how many lines people wrote.
 tables:
@@ -142,3 +117,30 @@ deb:
 
 clean:
 	rm -rf bin out crates/*/out
+
+.PHONY: check check-servers check-browser check-long counts
+
+# Every script of tests/ that needs the program alone, side by side: a line each, and 'N passed, M failed'. A script that lacks a tool says so, and has failed.
+# ONLY names some of them; PYTHON is one that has the modules. With CHECKED=out/try/roombox nothing is proved: that is built in minutes.
+PYTHON ?= python3
+CHECKED ?= bin/roombox
+check: $(CHECKED)
+	@$(PYTHON) tests/check.py $(CHECKED) $(ONLY)
+
+# Those that need a server of mails, calendars or logs, or mail programs; a browser; an hour, or the programs of the example crates.
+check-servers: $(CHECKED)
+	@$(PYTHON) tests/check.py $(CHECKED) --kind servers
+
+check-browser: $(CHECKED)
+	@$(PYTHON) tests/check.py $(CHECKED) --kind browser
+
+check-long: $(CHECKED) bin/worked_examples bin/schedule_examples bin/command_examples
+	@$(PYTHON) tests/check.py $(CHECKED) --kind long
+
+# What the last runs of these counted, into docs/ASSURANCE.md.
+counts:
+	@$(PYTHON) tests/check.py --counts
+
+# A program without proofs.
+out/try/%: $(shell find crates -name '*.rt')
+	@$(PYTHON) tests/tried.py $*
