@@ -67,8 +67,9 @@ CALLS = {
     },
     "door": {
         "cal_doors": ["GeneralZone::read", "date_at_start_adds_nothing", "GeneralZone::from_instant", "GeneralZone::between", "GeneralZone::table_end", "Run::once", "Run::yearly",
-                      "one_general_zone", "zones_are_general", "NamedZones::of", "NamedZones::named", "is_time_line", "adapt", "adapted_says_the_same", "tables_go_on_alike", "zones_are_clocks", "starts_are_known", "returned", "split"],
-        "sched_doors": ["Door::pass"],
+                      "one_general_zone", "zones_are_general", "NamedZones::of", "NamedZones::named", "is_time_line", "adapt", "adapted_says_the_same", "adapted_has_the_same_instances", "tables_go_on_alike", "zones_are_clocks", "starts_are_known", "returned", "split"],
+        "cal_events": ["instances_are_on_clocks"],
+        "sched_doors": ["Door::pass", "adapted_takes_place_as_before"],
         "sched_cli": ["run_adapt", "run_returned"],
     },
     "organisers": {

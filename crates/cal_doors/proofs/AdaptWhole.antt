@@ -132,7 +132,7 @@ module _ {X Y : Type 0} (listed : Option Tree) (octets adapted : List ℕ) (befo
         there = now.1;
         zone = zone_of c.zone;
         says = now.2;
-        same = inr (subst (λ b. TakesPlace listed before name b (zone_of c.zone)) (sym (going_on name c e)) (are_changes.replaced name c e));
+        same = inr (are_changes.unread name c e, subst (λ b. TakesPlace listed before name b (zone_of c.zone)) (sym (going_on name c e)) (are_changes.replaced name c e));
       }
   by_change name u None used e =
       let now = right.kept name u used e in

@@ -7,10 +7,10 @@ use Rattle.std.specs.Str.{bytes_eq}
 use Rattle.std.proofs.lemmas.Option.{none-some, same_Some}
 use Rattle.indexmap.specs.IndexMap.{insert_entry}
 use Rattle.profile.specs.text.Trees.{Tree}
-use Rattle.profile.specs.doors.Adapting.{TakesPlace}
+use Rattle.profile.specs.doors.Adapting.{TakesPlace, IsZoneUnread}
 use Rattle.cal_zones.specs.Kinds.{zone_of}
 use Rattle.cal_doors.specs.Used.{held, AreUses}
-use Rattle.cal_doors.specs.Adapted.{IsZoneUnread, IsZoneReadable, IsUseFor, AreChanges}
+use Rattle.cal_doors.specs.Adapted.{IsZoneReadable, IsUseFor, AreChanges}
 use Rattle.cal_doors.specs.declared.uses.Use.{Use}
 use Rattle.cal_doors.specs.declared.choice.Choice.{Choice}
 use Rattle.profile.specs.doors.Uses.{EventBeginsBy}

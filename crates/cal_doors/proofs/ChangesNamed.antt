@@ -7,11 +7,11 @@ use Rattle.profile.specs.text.Trees.{Tree}
 use Rattle.profile.specs.series.Zones.{Zone}
 use Rattle.profile.specs.series.ZoneTexts.{SaysZone}
 use Rattle.profile.specs.events.ZonedTimes.{zone_named, SaysZoneOf}
-use Rattle.profile.specs.doors.Adapting.{SaysNothing, IsListedZone, IsSameFor, SetsBack}
+use Rattle.profile.specs.doors.Adapting.{SaysNothing, IsListedZone, IsSameFor, SetsBack, IsZoneUnread}
 use Rattle.profile.specs.series.GeneralZones.{Run}
 use Rattle.profile.specs.series.GeneralZoneTexts.{SaysGeneralZone}
 use Rattle.cal_zones.specs.Kinds.{zone_of}
-use Rattle.cal_doors.specs.Adapted.{listed_of, IsZoneReadable, IsZoneUnread, IsNeeded, IsMeantZone, IsUseFor}
+use Rattle.cal_doors.specs.Adapted.{listed_of, IsZoneReadable, IsNeeded, IsMeantZone, IsUseFor}
 use Rattle.cal_doors.specs.declared.changes.Need.TheVariants.{Nothing, Change}
 use Rattle.cal_doors.specs.declared.uses.Use.{Use}
 use Rattle.cal_doors.specs.declared.choice.Choice.{Choice}

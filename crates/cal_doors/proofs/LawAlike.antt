@@ -37,11 +37,11 @@ module _ (zone : List Run) (to : ℤ) (longer other : List Run) (gone : IsGoneOn
   onset_as : (x : Onset) → IsGeneralOnset longer x → IsGeneralOnset other x
   onset_as x is = (gone_too x).1 ((gone x).0 is)
 
-same_offset : (zone : List Run) (to : ℤ) (longer other : List Run) → IsGoneOn zone to longer → IsGoneOn zone to other → (t p : ℤ) → IsGeneralOffsetAt longer t p → IsGeneralOffsetAt other t p
+pub same_offset : (zone : List Run) (to : ℤ) (longer other : List Run) → IsGoneOn zone to longer → IsGoneOn zone to other → (t p : ℤ) → IsGeneralOffsetAt longer t p → IsGeneralOffsetAt other t p
 same_offset zone to longer other gone gone_too =
     in_force_as (IsGeneralOnset longer) (IsGeneralOnset other) (onset_as zone to longer other gone gone_too) (onset_as zone to other longer gone_too gone)
 
-same_meaning : (zone : List Run) (to : ℤ) (longer other : List Run) → IsGoneOn zone to longer → IsGoneOn zone to other → (local t : ℤ) → MeansGenerally longer local t → MeansGenerally other local t
+pub same_meaning : (zone : List Run) (to : ℤ) (longer other : List Run) → IsGoneOn zone to longer → IsGoneOn zone to other → (local t : ℤ) → MeansGenerally longer local t → MeansGenerally other local t
 same_meaning zone to longer other gone gone_too =
     means_as (IsGeneralOffsetAt longer) (IsGeneralOffsetAt other) (IsGeneralOnset longer) (IsGeneralOnset other) (same_offset zone to longer other gone gone_too)
     (same_offset zone to other longer gone_too gone) (onset_as zone to longer other gone gone_too)

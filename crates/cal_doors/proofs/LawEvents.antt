@@ -30,11 +30,11 @@ fourth : (a b c d e : Bool) → d ≡ true → (a || (b || (c || (d || e)))) ≡
 fourth a b c d e h = grind (arith, nat_tests)
 
 -- a line of RDATE is one of times
-of_dates : (line : List ℕ) → is_of (codes "RDATE") line ≡ true → is_time_line line ≡ true
+pub of_dates : (line : List ℕ) → is_of (codes "RDATE") line ≡ true → is_time_line line ≡ true
 of_dates line h =
     fourth (is_of (codes "DTSTART") line) (is_of (codes "DTEND") line) (is_of (codes "RECURRENCE-ID") line) (is_of (codes "RDATE") line) (is_of (codes "EXDATE") line || false) h
 
-in_lines : (name : List ℕ) (lines : List (List ℕ)) (line : List ℕ) → Contains (lines_named name lines) line → Contains lines line × (is_of name line ≡ true)
+pub in_lines : (name : List ℕ) (lines : List (List ℕ)) (line : List ℕ) → Contains (lines_named name lines) line → Contains lines line × (is_of name line ≡ true)
 in_lines name lines line h = (
   All-contains (Contains lines) (lines_named name lines) line (All-filter (is_of name) (Contains lines) lines (All-contains_itself lines)) h,
   All-contains (λ x. is_of name x ≡ true) (lines_named name lines) line (filter_passes (is_of name) lines) h,

@@ -43,7 +43,7 @@ module _ (meant part : Tree) (runs : List Run) (zone : Zone) (general : SaysGene
   from_first : IsSameFrom runs zone (first -ℤ pos 86_399) → SaysSameAs runs zone name lines
   from_first = from_first_by runs (general_near meant runs general) (general_shown meant runs general)
 
-  as_it_goes_on : (to : ℤ) (longer : List Run) → IsGoneOn runs to longer → IsSameFrom longer zone (first -ℤ pos 86_399) → SaysSameAs longer zone name lines
+  pub as_it_goes_on : (to : ℤ) (longer : List Run) → IsGoneOn runs to longer → IsSameFrom longer zone (first -ℤ pos 86_399) → SaysSameAs longer zone name lines
   as_it_goes_on to longer gone = from_first_by longer (beyond_near meant runs general to longer gone) (beyond_shown meant runs general to longer gone)
 
   while_it_lasts : (end : ℤ) → last ≡ Some end → IsSameBetween runs zone (first -ℤ pos 86_399) (end +ℤ pos 86_399) → SaysSameAs runs zone name lines
@@ -122,7 +122,7 @@ module _ (one_rule : OneRule) (listed : Option Tree) (octets : List ℕ) (going_
     says = given.says;
     same = elim given.same [
       | inl e ↦ inl e
-      | inr p ↦ inr (record { meant = p.meant; is_meant = p.is_meant; runs = p.zone; says = p.says; so = so given.part given.zone p given.says })
+      | inr p ↦ inr (record { meant = p.1.meant; is_meant = p.1.is_meant; runs = p.1.zone; says = p.1.says; so = so given.part given.zone p.1 given.says })
     ];
   }
 

@@ -1,9 +1,9 @@
 -- Each start that a room makes of a VEVENT is one that its lines let it have on the clocks of its zone. For `starts_are_known`.
 use Rattle.std.proofs.Common.{◌≡◌, ◌∙◌, sym, refl, subst, arith, inl, inr, ℕ, ◌==◌, false, List, [], ◌∷◌, Option, Some, None, ℤ, pos}
 use Rattle.std.specs.Prelude.{◌⊎◌, Contains, All, codes, unsigned_abs}
-use Rattle.std.specs.List.{AllZip, flat_map, slice_split}
+use Rattle.std.specs.List.{AllZip, slice_split}
 use Rattle.std.proofs.lemmas.Int.{ints}
-use Rattle.std.proofs.lemmas.List.Elements.{All-contains, All-contains_itself, All-append, All-nil, All-map, All-weaker, All-head, All-tail, All-cons, Contains-push}
+use Rattle.std.proofs.lemmas.List.Elements.{All-contains, All-contains_itself, All-nil, All-head, All-tail, All-cons, Contains-push}
 use Rattle.profile.specs.text.Lines.{line_value, line_param}
 use Rattle.profile.specs.text.Trees.{Tree}
 use Rattle.profile.specs.text.Values.{SpellsStamp, WritesOffset, IsOffset}
@@ -14,29 +14,18 @@ use Rattle.profile.specs.series.Zones.{Zone, Constant, Means, local_time}
 use Rattle.profile.specs.events.Properties.{Form, Fixed, Floating, WholeDay, Says, BothOrNeither, OccursAtMostOnce, lines_named}
 use Rattle.profile.specs.events.ZonedTimes.{SaysEventTimes, clock_of, zone_named, SaysZoneOf, SpellsForm}
 use Rattle.profile.specs.events.EventRules.{GivesRule, SaysEventRule, GivesBeside, IsRuleText}
-use Rattle.profile.specs.events.Occurrences.{Time, ListedTime, IsListed, entries_of, entries_named}
+use Rattle.profile.specs.events.Occurrences.{Time, ListedTime, IsListed, entries_named}
 use Rattle.profile.specs.events.EventComponents.{EventComponent, Method, SaysEventComponent}
 use Rattle.profile.specs.events.Placed.{IsAt, IsInstantIn, IsPlaced, zone_in}
 use Rattle.profile.specs.events.Starts.{IsGiven}
 use Rattle.profile.specs.doors.OnClocks.{IsRuleStartOn, MayStart, by_rule, added, added_local}
 use Rattle.profile.specs.doors.OnClocks as clocks
 use Rattle.cal_doors.proofs.LawClocks.{AreNear}
-use Rattle.cal_doors.proofs.LawZoneClocks.{rule_there}
+use Rattle.profile.proofs.ZoneClocks.{rule_there}
+use Rattle.profile.proofs.ListedTimes.{IsEntryOf, entries_among}
 use Rattle.cal_doors.proofs.LawOffsets.{second_bound, IsZoneShort, short_near, zone_near}
 
 -- ---- the times of RDATE
-
--- a text of a line that is among some lines
-abbrev IsEntryOf : (List ℕ → Type 0) → ListedTime → Type 0
-IsEntryOf Q entry = Q entry.0 × Contains (slice_split (λ c. c == 44) (line_value entry.0)) entry.1
-
-entries_among : (Q : List ℕ → Type 0) (lines : List (List ℕ)) → All Q lines → All (IsEntryOf Q) (flat_map entries_of lines)
-entries_among Q [] all = All-nil (IsEntryOf Q)
-entries_among Q (line ∷ lines) all =
-    All-append (IsEntryOf Q) (entries_of line) (flat_map entries_of lines)
-    (All-map (IsEntryOf Q) (λ text. (line, text)) (slice_split (λ c. c == 44) (line_value line))
-    (All-weaker (Contains (slice_split (λ c. c == 44) (line_value line))) (λ text. IsEntryOf Q (line, text)) (λ text there. (All-head Q line lines all, there)) _ (All-contains_itself _)))
-    (entries_among Q lines (All-tail Q line lines all))
 
 -- what holds of each entry as it is read in a room holds of all instants
 each_read : (P : ListedTime → Type 0) (R : ℤ → Type 0) (room : Option Zone) (object : Tree)
@@ -51,7 +40,7 @@ each_read P R room object one (entry ∷ entries) (time ∷ times) (t ∷ instan
     (each_read P R room object one entries times instants (All-tail P entry entries all) listed.1 at.1)
 
 -- UTC is a clock that shows each instant as it is
-in_utc : (local t : ℤ) → Means (Constant (pos 0)) local t → local ≡ t
+pub in_utc : (local t : ℤ) → Means (Constant (pos 0)) local t → local ≡ t
 in_utc local t (inl h) = let s = h.shown in let e = s.2 in let o : s.0 ≡ pos 0 = s.1 in omega (arith, ints, e, o)
 in_utc local t (inr h) = absurd h.listed
 
@@ -60,7 +49,7 @@ in_utc local t (inr h) = absurd h.listed
 written_short : (text : List ℕ) (offset : ℤ) → WritesOffset text offset → IsOffset offset
 written_short text offset (time, s, e) = second_bound time (unsigned_abs offset) s
 
-room_short : (words : List ℕ) (room : Option Zone) → IsRoomZone words room → IsZoneShort (clock_of room)
+pub room_short : (words : List ℕ) (room : Option Zone) → IsRoomZone words room → IsZoneShort (clock_of room)
 room_short words None is = omega arith
 room_short words (Some zone) (inl (offset, some, written, e)) = subst IsZoneShort (sym e) (written_short words offset written)
 room_short words (Some zone) (inr h) =

@@ -39,5 +39,6 @@ pub mod LawEvents
 pub mod LawOffsets
 pub mod LawMeant
 pub mod LawAlike
-pub mod LawZoneClocks
 pub mod LawStarts
+pub mod SameInstances
+pub mod LawInstances

@@ -11,9 +11,9 @@ use Rattle.profile.specs.series.Zones.{Zone}
 use Rattle.profile.specs.series.GeneralZones.{Run}
 use Rattle.profile.specs.series.GeneralZoneTexts.{SaysGeneralZone}
 use Rattle.profile.specs.series.ZoneTexts.{SaysZone}
-use Rattle.profile.specs.events.ZonedTimes.{zone_named, SaysZoneOf}
+use Rattle.profile.specs.events.ZonedTimes.{zone_named}
 use Rattle.profile.specs.doors.Uses.{BeginsBy, EndsBy}
-use Rattle.profile.specs.doors.Adapting.{IsOf, IsMeant, TakesPlace, without_zones}
+use Rattle.profile.specs.doors.Adapting.{IsOf, IsMeant, IsZoneUnread, TakesPlace, without_zones}
 use Rattle.cal_zones.specs.Kinds.{zone_of}
 use Rattle.cal_doors.specs.Named.{AreNamed}
 use Rattle.cal_doors.specs.Used.{held}
@@ -35,10 +35,6 @@ list_of listed = option_map (λ object. tree_of object.now) listed
 abbrev pub IsListOfZones : Option (Bor NamedZones) → Type 0
 IsListOfZones None = Unit {0}
 IsListOfZones (Some zones) = AreNamed zones.now
-
--- no room reads what the name means in the object
-abbrev pub IsZoneUnread : Tree → List ℕ → Type 0
-IsZoneUnread object name = (zone : Zone) → SaysZoneOf (zone_named name object) zone → ⊥
 
 -- a room reads it
 abbrev pub IsZoneReadable : Tree → List ℕ → Type 0

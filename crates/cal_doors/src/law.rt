@@ -4,6 +4,7 @@ ghost use Rattle.std.specs.Prelude.{◌≡◌, ◌↔◌, ◌⊎◌, ◌<◌, �
 ghost use Rattle.std.specs.List.{list_any};
 ghost use Rattle.std.specs.Str.{bytes_eq};
 ghost use Rattle.profile.specs.text.Trees.{Tree, vevents};
+ghost use Rattle.profile.specs.checker.Instances.{Instance};
 ghost use Rattle.profile.specs.series.Rules.{Rule, RuleText};
 ghost use Rattle.profile.specs.series.Zones.{Zone, Observance, Single, Pair, Means, Shows, local_time};
 ghost use Rattle.profile.specs.series.GeneralZones as general;
@@ -16,12 +17,14 @@ ghost use Rattle.profile.specs.events.EventComponents.{EventComponent, Method, S
 ghost use Rattle.profile.specs.events.Placed.{IsPlaced};
 ghost use Rattle.profile.specs.events.Starts.{IsRuleStart, IsGiven, IsDaysLater};
 ghost use Rattle.profile.specs.doors.OnClocks.{GivesRuleOn, IsRuleStartOn, IsDaysLaterOn, MayStart};
+ghost use Rattle.profile.specs.doors.InstancesOnClocks.{IsClockAtDoor, IsClockInRoom, IsInstanceOn};
 ghost use Rattle.profile.specs.doors.Uses.{IsLineIn};
 ghost use Rattle.profile.specs.doors.Adapting.{EndsBefore, IsAdapted, IsSameFor, TakesPlace};
 ghost use Rattle.cal_doors.specs.After.{IsGeneral, AreSameZones};
 ghost use Rattle.cal_doors.specs.Laws.{AgreeFrom, SaysTheSame, SaysTheSameUpTo};
 
 use cal_rules::one_rule;
+use cal_zones::one_zone;
 use ical_values::local_time::one_local_time;
 use ical_values::offset::one_offset;
 
@@ -62,6 +65,22 @@ pub fn adapted_says_the_same()
         (name : List ℕ) (lines : List (List ℕ)) (line : List ℕ) → Contains (vevents a.before) lines → IsLineIn name lines line
         → list_any (bytes_eq name) going_on ≡ true → SaysTheSameUpTo listed a.before a.after name lines }
 {}
+
+/// An object that was made readable has the same instances as before: those that its VEVENTs have on the clocks that their names of zones mean at the door,
+/// they have on those of the zones that a room reads in it. A zone that is told to go on does so here by its last rules, where its table ends. So it is with
+/// a meeting of any of its VEVENTs, which are as they came.
+pub fn adapted_has_the_same_instances()
+    ensures instances { (listed : Option Tree) (octets : List ℕ) (going_on : List (List ℕ)) (adapted : List ℕ) (a : IsAdapted listed octets going_on adapted)
+        (words : List ℕ) (room : Option Zone) → IsRoomZone words room → (events : List (List (List ℕ)))
+        → ((lines : List (List ℕ)) → Contains events lines → Contains (vevents a.before) lines) → (instance : Instance)
+        → IsInstanceOn (IsClockAtDoor listed a.before going_on) room events instance ↔ IsInstanceOn (IsClockInRoom a.after) room events instance }
+    ensures events { (listed : Option Tree) (octets : List ℕ) (going_on : List (List ℕ)) (adapted : List ℕ) (a : IsAdapted listed octets going_on adapted)
+        → vevents a.after ≡ vevents a.before }
+{
+    one_rule();
+    one_zone();
+    one_general_zone();
+}
 
 /// A VTIMEZONE whose table ends in 2036 or later, with no rule that goes on without an end, is told to go on wherever times don't end. And where one VTIMEZONE is told to
 /// go on in two objects, the two have the same offsets from the later of their first times on, and each local time means the same.

@@ -28,8 +28,8 @@ mod zone;
 
 pub use end::{End, YearDay};
 pub use law::{
-    adapted_says_the_same, date_at_start_adds_nothing, one_general_zone, starts_are_known,
-    tables_go_on_alike, zones_are_clocks, zones_are_general,
+    adapted_has_the_same_instances, adapted_says_the_same, date_at_start_adds_nothing,
+    one_general_zone, starts_are_known, tables_go_on_alike, zones_are_clocks, zones_are_general,
 };
 pub use named::NamedZones;
 pub use parting::split;

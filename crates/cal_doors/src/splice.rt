@@ -4,7 +4,7 @@ ghost use Rattle.std.specs.Prelude.{◌<◌, length, IfOk, IfSome};
 
 use crate::changes::Changes;
 use cal_zones::{Zone, zone_name};
-use ical_lines::split_line;
+use ical_lines::{split_line, without_mark};
 use ical_tree::Component;
 use std::alloc::{AllocError, Global};
 
@@ -19,7 +19,8 @@ enum Place {
     Replaced,
 }
 
-/// The octets with the VTIMEZONEs of these names in the place of those that are there; those that aren't come before the first component inside.
+/// The octets with the VTIMEZONEs of these names in the place of those that are there; those that aren't come before the first component inside. A byte
+/// order mark stays.
 pub(crate) fn spliced(
     alloc: Global,
     octets: &[u8],
@@ -27,13 +28,17 @@ pub(crate) fn spliced(
     changes: &Changes,
 ) -> Result<Vec<u8>, AllocError> {
     let order = order_of(alloc, object, changes)?;
+    let unmarked = without_mark(octets);
     let mut splicer = Splicer {
         out: Vec::new(alloc),
         place: Place::Before,
         begun: false,
         zones: 0,
     };
-    let mut left = Some(octets);
+    splicer
+        .out
+        .extend_from_slice(up_to(octets, Some(unmarked)))?;
+    let mut left = Some(unmarked);
     while let Some(rest) = left {
         let (line, next) = split_line(rest);
         splicer.take_line(line, up_to(rest, next), &order, changes)?;

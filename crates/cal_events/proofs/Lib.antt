@@ -21,4 +21,5 @@ pub mod sweep_lemmas
 pub mod texts_lemmas
 pub mod when_lemmas
 pub mod whole_lemmas
+pub mod on_clocks_lemmas
 pub mod with_zone_lemmas

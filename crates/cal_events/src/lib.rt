@@ -18,6 +18,7 @@ mod method;
 pub mod naming;
 mod neighbours;
 mod occurrences;
+mod on_clocks;
 mod overlapping;
 mod own_instances;
 mod place;
@@ -50,6 +51,7 @@ pub use meeting_components::read_meeting;
 pub use method::Method;
 pub use naming::Naming;
 pub use occurrences::WrittenTimes;
+pub use on_clocks::instances_are_on_clocks;
 pub use property::{PROPERTIES, Presence, Property};
 pub use reading::{
     calendar_series_are_said, one_calendar, one_calendar_text, series_and_singles_divide,

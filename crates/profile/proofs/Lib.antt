@@ -18,3 +18,5 @@ pub mod ZoneRepeats
 pub mod SeriesRepeats
 pub mod PairRepeats
 pub mod MadeCertificates
+pub mod ZoneClocks
+pub mod ListedTimes

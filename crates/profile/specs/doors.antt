@@ -2,4 +2,5 @@
 pub mod Uses
 pub mod Adapting
 pub mod OnClocks
+pub mod InstancesOnClocks
 pub mod Returning

@@ -4,6 +4,7 @@
 mod door;
 mod fault;
 mod inbox;
+mod law;
 mod piece;
 mod place;
 mod preamble;
@@ -11,3 +12,4 @@ mod preamble;
 pub use door::Door;
 pub use fault::DoorFault;
 pub use inbox::AdaptedInbox;
+pub use law::adapted_takes_place_as_before;

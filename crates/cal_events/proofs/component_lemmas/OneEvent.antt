@@ -25,10 +25,10 @@ OneSequence = (text : List ℕ) (a b : ℕ) → SpellsSequence text a → Spells
 
 -- ---- functional values
 
-uid_one : IsFunctional IsUidLine
+pub uid_one : IsFunctional IsUidLine
 uid_one line a b h k = h.0 ∙ sym k.0
 
-address_one : IsFunctional IsAddressLine
+pub address_one : IsFunctional IsAddressLine
 address_one line a b h k = h.1 ∙ sym k.1
 
 stamp_one : OneStamp → IsFunctional IsStampLine

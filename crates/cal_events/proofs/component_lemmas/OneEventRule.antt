@@ -56,7 +56,7 @@ not_none zone second one (Some (UntilInstant instant)) last from h k = none_left
 same_day : (local : ℤ) (d s e t : ℕ) → IsOnDay local d s → IsOnDay local e t → (d ≡ e) × (s ≡ t)
 same_day local d s e t h k = (omega (arith, ints, h.0, h.1, k.0, k.1), omega (arith, ints, h.0, h.1, k.0, k.1))
 
-same_given : (zone : Zone) (local : ℤ) → IsOneMeaning zone → (text : RuleText) (a b : Rule) → GivesRule zone local text a → GivesRule zone local text b → a ≡ b
+pub same_given : (zone : Zone) (local : ℤ) → IsOneMeaning zone → (text : RuleText) (a b : Rule) → GivesRule zone local text a → GivesRule zone local text b → a ≡ b
 same_given zone local one text a b g h =
     let e = same_day local g.day g.second h.day h.second g.on h.on in
     let last = same_last zone h.second one text.until g.last h.last (subst (λ (s : ℕ). IsLastAllowed zone s text.until g.last) e.1 g.allowed) h.allowed in

@@ -105,11 +105,11 @@ not_out one is_end object line form zone local t says means dates (another, othe
 length_same : (a b : Length) → a.days ≡ b.days → a.seconds ≡ b.seconds → a ≡ b
 length_same a b p q = λ i. record { days = p i; seconds = q i }
 
-length_one : OneDuration → IsFunctional LastsFor
+pub length_one : OneDuration → IsFunctional LastsFor
 length_one one line a b h k = let e = one (line_value line) a.days a.seconds b.days b.seconds h k in length_same a b e.0 e.1
 
 -- lengths that are counted alike and come to as many seconds
-counted_same : (form : Form) (a b : Length) → IsCountedBy form a → IsCountedBy form b → length_seconds a ≡ length_seconds b → a ≡ b
+pub counted_same : (form : Form) (a b : Length) → IsCountedBy form a → IsCountedBy form b → length_seconds a ≡ length_seconds b → a ≡ b
 counted_same Fixed a b h k e = length_same a b (h ∙ sym k) (omega (arith, h, k, e))
 counted_same Floating a b h k e = length_same a b (h ∙ sym k) (omega (arith, h, k, e))
 counted_same WholeDay a b h k e = length_same a b (omega (arith, h, k, e)) (h ∙ sym k)

@@ -74,7 +74,7 @@ from_start event b h = inl (record { master = event; is = refl; starts = h.start
 from_itself : (event : EventComponent) (b : Instance) → IsItself event b → IsInstance (of_override event) b
 from_itself event b h = inr (record { override = event; is = (0, omega arith, refl); recurrence = h.slot; key = h.key; starts = h.starts; ends = h.ends })
 
-abbrev alone_if : Bool → EventComponent → Event
+abbrev pub alone_if : Bool → EventComponent → Event
 alone_if b event = if b then of_override event else of_master event
 
 module _ (event : EventComponent) (b : Instance) where

@@ -29,7 +29,7 @@ Lines = List (List ℕ)
 
 -- ---- there is one
 
-instant_one : (room : Option Zone) → IsOneMeaning (clock_of room) → (form : Form) (t u v : ℤ) → IsInstantIn room form t u → IsInstantIn room form t v → u ≡ v
+pub instant_one : (room : Option Zone) → IsOneMeaning (clock_of room) → (form : Form) (t u v : ℤ) → IsInstantIn room form t u → IsInstantIn room form t v → u ≡ v
 instant_one room one Fixed t u v h k = h ∙ sym k
 instant_one room one Floating t u v h k = one t u v h k
 instant_one room one WholeDay t u v h k = one t u v h k
@@ -82,7 +82,7 @@ times_as_written : (ws : List Time) → AllZip (IsAt None) ws (instants_of ws)
 times_as_written [] = tt
 times_as_written (w ∷ ws) = (instant_as_written w.form w.instant, times_as_written ws)
 
-no_zone : (object : Tree) (name : Option (List ℕ)) (text : List ℕ) (form : Form) (zone : Option Zone) (local : ℤ) → SpellsForm object name text form zone local → zone_in None form zone ≡ zone
+pub no_zone : (object : Tree) (name : Option (List ℕ)) (text : List ℕ) (form : Form) (zone : Option Zone) (local : ℤ) → SpellsForm object name text form zone local → zone_in None form zone ≡ zone
 no_zone object name text Fixed z local h = refl
 no_zone object name text Floating z local h = sym h.1
 no_zone object name text WholeDay z local h = sym h.1

@@ -134,13 +134,17 @@ pub record TakesPlace (listed : Option Tree) (object : Tree) (name : List ℕ) (
   pub same : IsSameFor zone other goes_on first last
   pub sides : SetsBack other
 
--- the VTIMEZONE that a name means afterwards is one that a room reads: the one before, or one whose zone takes the place of that
+-- no room reads what the name means in the object
+abbrev pub IsZoneUnread : Tree → List ℕ → Type 0
+IsZoneUnread object name = (zone : Zone) → SaysZoneOf (zone_named name object) zone → ⊥
+
+-- the VTIMEZONE that a name means afterwards is one that a room reads: the one before, or one whose zone takes the place of that, which no room reads
 pub record IsZoneGiven (listed : Option Tree) (before after : Tree) (name : List ℕ) (goes_on : Bool) : Type 0 where
   pub part : Tree
   pub there : zone_named name after ≡ Some part
   pub zone : Zone
   pub says : SaysZone part zone
-  pub same : (zone_named name before ≡ Some part) ⊎ TakesPlace listed before name goes_on zone
+  pub same : (zone_named name before ≡ Some part) ⊎ (IsZoneUnread before name × TakesPlace listed before name goes_on zone)
 
 -- ---- the object
 
@@ -165,4 +169,4 @@ pub record IsAdapted (listed : Option Tree) (octets : List ℕ) (going_on : List
   pub zones : (name : List ℕ) → NamesZone before name → IsZoneGiven listed before after name (list_any (bytes_eq name) going_on)
   pub unread : List ℕ
   pub named : NamesZone before unread
-  pub needed : (zone : Zone) → SaysZoneOf (zone_named unread before) zone → ⊥
+  pub needed : IsZoneUnread before unread

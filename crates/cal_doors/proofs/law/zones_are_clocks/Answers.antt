@@ -1,4 +1,4 @@
-use Rattle.cal_doors.proofs.LawZoneClocks.{same_rules, same_starts, same_days}
+use Rattle.profile.proofs.ZoneClocks.{same_rules, same_starts, same_days}
 use Rattle.cal_doors.proofs.law.zones_are_clocks.Goals as goal
 
 pub returns-clause-rules : goal.returns-clause-rules

@@ -1,4 +1,5 @@
--- On the clocks of a zone that a room reads a VEVENT says what the room makes of it. For `zones_are_clocks`.
+-- On the clocks of a zone that a room reads a VEVENT says what the room makes of it. For
+-- `zones_are_clocks` of cal_doors and `instances_are_on_clocks` of cal_events.
 use Rattle.std.proofs.Common.{ℕ, Option, Some, None, ℤ}
 use Rattle.std.specs.Prelude.{◌↔◌}
 use Rattle.profile.specs.series.Rules.{Rule, RuleText, Until, UntilDay, UntilLocal, UntilInstant}
@@ -38,7 +39,7 @@ rule_there z local text rule g = record {
   starts = g.starts;
 }
 
-rule_back : (z : Zone) (local : ℤ) (text : RuleText) (rule : Rule) → GivesRuleOn (Means z) local text rule → GivesRule z local text rule
+pub rule_back : (z : Zone) (local : ℤ) (text : RuleText) (rule : Rule) → GivesRuleOn (Means z) local text rule → GivesRule z local text rule
 rule_back z local text rule g = record {
   day = g.day;
   second = g.second;

@@ -1,0 +1,2 @@
+pub mod TimesOnClocks
+pub mod EventsOnClocks
