@@ -1,6 +1,6 @@
 """Lists the instances of events by `roombox expand`, and by dateutil and zoneinfo, libraries of Python, and compares the lines.
 
-    python3 tests/expand_by_dateutil.py bin/roombox [--rules 300] [--events 300] [--days 600] [--seed 1]
+    python3 tests/expand_by_dateutil.py bin/roombox [--rules 300] [--events 300] [--days 1000] [--seed 1]
     python3 tests/expand_by_dateutil.py bin/roombox --only "days 1 17"        # one case by its name: what it is, and both answers
 
 What has to come out is read from the same text by lib/calendars.py. The cases:
@@ -354,7 +354,7 @@ def events(cases):
 def main():
     parser = argparse.ArgumentParser()
     parser.add_argument("program", nargs="?")
-    for kind, count in (("rules", 300), ("events", 300), ("days", 600)):
+    for kind, count in (("rules", 300), ("events", 300), ("days", 1000)):
         parser.add_argument(f"--{kind}", type=int, default=count)
     parser.add_argument("--seed", type=int, default=1)
     parser.add_argument("--only")
