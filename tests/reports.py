@@ -91,6 +91,8 @@ def devices(cases, program, parent):
         os.chmod(certificate, 0o600)
         ended = subprocess.run([program, "check", certificate, certificate, R1], capture_output=True, timeout=60, check=False, user=NOBODY)
         cases.holds("a file that may not be read", (ended.returncode, ended.stderr.decode()), (4, f"roombox: device\nroombox: {certificate}: permission is denied\n"))
+    else:
+        cases.lacks("a file that may not be read", "root")
 
 
 def boxes(cases, program, parent):
@@ -230,6 +232,8 @@ def files_that_fail(cases, program, parent):
         os.chmod(parent, 0o755)
         for prepare in (unreadable, unwritable):
             cases.holds(f"a box and {prepare.__name__}", *box(prepare, user=NOBODY))
+    else:
+        cases.lacks("a box that may not read or write", "root")
 
 
 def full_disk(cases, program, parent):
