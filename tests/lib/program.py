@@ -7,6 +7,7 @@ from pathlib import Path
 
 ROOT = Path(__file__).resolve().parent.parent.parent
 DATA = ROOT / "crates" / "command_examples" / "data"
+MORE_DATA = ROOT / "crates" / "worked_examples" / "data"
 # a folder in memory, where there is one: folders of a box sync each answer
 MEMORY = Path("/dev/shm")
 # each is told the words and the input of a run
@@ -20,8 +21,8 @@ def of_arguments():
 
 
 def read(*names):
-    """The octets of files of the rows, one after another."""
-    return b"".join((DATA / name).read_bytes() for name in names)
+    """The octets of files of the rows of commands, or else of messages, one after another."""
+    return b"".join((DATA / name if (DATA / name).exists() else MORE_DATA / name).read_bytes() for name in names)
 
 
 def ended(program, *words, given=b"", **how):
