@@ -80,7 +80,7 @@ CALLS = {
         "sched_laws": ["*"],
     },
     "program": {
-        "sched_devices": ["Input::*", "Output::*", "DeviceReader::with_capacity", "DeviceWriter::new", "Folder::*", "MemoryFolder::restart"],
+        "sched_devices": ["Input::*", "Output::*", "DeviceReader::with_capacity", "Recorder::new", "Recorder::octets", "DeviceWriter::new", "Folder::*", "MemoryFolder::restart"],
         "sched_box": ["Config::*", "read_preamble", "Objects::next_object", "serve", "serve_stream*", "keep", "shown_meetings", "run_box*", "compare_box", "MessageName::*"],
         "box_laws": ["*"],
         "fault_places": ["place_of", "in_the_way", "flaw_in_object"],

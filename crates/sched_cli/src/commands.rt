@@ -1,10 +1,11 @@
 //! What each command does, and the status that it ends with.
 
-ghost use Rattle.std.specs.Prelude.{◌≡◌, ◌≤◌, ◌++◌, ◌⊎◌, ℕ, take, false, IfOk, IfErr, OnOk};
+ghost use Rattle.std.specs.Prelude.{◌≡◌, ◌≤◌, ◌++◌, ◌⊎◌, ℕ, take, true, false, IfOk, IfErr, OnOk};
 ghost use Rattle.std.specs.Io.KnownBytes.{Appends, Keeps};
 ghost use Rattle.profile.specs.checker.Calendars.{CertificateHolds};
 ghost use Rattle.ical_values.specs.Octets.{address_octets};
 ghost use Rattle.sched_box.specs.Faults.{StreamKeepsButRead, StreamStopsFor};
+ghost use Rattle.sched_devices.specs.Input.{ForTaken};
 ghost use Rattle.sched_devices.specs.Output.{KeepsButFailed, StopsWriting};
 ghost use Rattle.sched_cli.specs.Commands.{BlamesDevice, CutsKept, CutsVerdict, IsStatusSaid, ServesWith, WritesKept, KeepsBoth, KeepsNone, RefusesToKeep, TellsDevice, WritesVerdict, verdict_line, verdict_status, no_line};
 
@@ -33,6 +34,9 @@ pub fn run_serve<R: Input, W: Output, E: Output>(
     ensures told { TellsDevice result (R.has_failed reader.old) (R.has_failed reader.new) (W.has_failed writer.old) (W.has_failed writer.new) }
     ensures serves { ServesWith result (record { input = R.remaining reader.old; left = R.remaining reader.new; output = W.contents writer.old; written = W.contents writer.new })
         (E.contents errors.old) (E.contents errors.new) (E.may_lose errors.new) }
+    ensures taken { ForTaken R.takes R.lent R.has_ended reader.old reader.new (λ input left. ServesWith result (record { input = input; left = left; output = W.contents writer.old; written = W.contents writer.new })
+        (E.contents errors.old) (E.contents errors.new) (E.may_lose errors.new)) }
+    ensures ended { result ≡ 0 → R.has_ended reader.new ≡ true }
 {
     match serve_stream(alloc, reader, writer) {
         Ok(_) => DONE,
