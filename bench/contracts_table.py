@@ -27,7 +27,7 @@ RELATION = re.compile(r"\b[A-Z]\w*\b")
 CALLS = {
     "free": {
         "clash_check": ["check", "judge", "judge_read", "certificate_means_clear", "yes_means_free", "check_clash", "Drawing::new"],
-        "room_books": ["runs_stay_clear", "answers_stay", "accepted_where_clear", "Room::new", "Room::take", "Room::kept", "kept_texts_pass", "kept_texts_spell", "one_kept_calendar", "served_texts_pass"],
+        "room_books": ["runs_stay_clear", "answers_stay", "accepted_where_clear", "Room::new", "Room::take", "Room::kept", "kept_texts_pass", "kept_texts_spell", "kept_calendar_is_of_room", "one_kept_calendar", "served_texts_pass"],
         "clash_cert": ["make", "extend", "certificate_of", "certificate_from", "group", "certificate_written", "one_certificate_made"],
         "cal_period": ["clash_of_pair", "clash_alone", "NewSeries::clash_with", "single_beside_series", "first_sharer", "residues", "settling_residues", "residues_settle", "are_apart",
                        "is_apart", "span_of_pair", "span_of_members", "spans_settle", "common_period", "series_repeat", "periods_are_multiples", "Recurs::period_days",

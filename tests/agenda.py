@@ -240,6 +240,24 @@ def said_cases():
     return cases
 
 
+def of_check(program):
+    """`check` says for which UID it refuses a calendar, where `agenda` says so behind the number; of a calendar that can be read it says nothing."""
+    faults = 0
+    for name, text, words, status, _, said in said_cases():
+        with tempfile.TemporaryDirectory() as folder:
+            calendar, certificate = Path(folder, "kept.ics"), Path(folder, "empty")
+            calendar.write_text(text, newline="")
+            certificate.write_text("")
+            ended = subprocess.run([program, "check", calendar, certificate, words[0]], capture_output=True, timeout=300)
+        found = ended.returncode, ended.stdout.decode(), ended.stderr.decode()
+        number, _, uid = said.partition("\n")
+        wanted = (1, "no 80\n", uid) if number.startswith("roombox: refused ") else (1, "no 81 1\n", "")
+        if found != wanted:
+            faults += 1
+            print(f"check, {name}: {found}, wanted {wanted}")
+    return len(said_cases()), faults
+
+
 def of_kept(program):
     """What `keep` writes passes for its room, without a word: also a declined instance of a series that was accepted, and a room that has nothing."""
     series = ["BEGIN:VCALENDAR", "VERSION:2.0", "PRODID:-//test//EN", "METHOD:REQUEST", *vevent("plan", f"ATTENDEE:{ROOM}")[:-1], "RRULE:FREQ=DAILY;COUNT=3", "END:VEVENT", "END:VCALENDAR", ""]
@@ -281,7 +299,7 @@ def by_hand(program):
     if run(program, text, ROOM, "--from", "20250415T140000Z", "--until", "20250415T150000Z", "--free")[0] != 0:
         faults += 1
         print("an empty room, as keep prints it, is free")
-    more, wrong = of_kept(program)
+    more, wrong = map(sum, zip(of_kept(program), of_check(program)))
     return len(cases()) + len(said_cases()) + 2 + more, faults + wrong
 
 

@@ -7,8 +7,10 @@ ghost use Rattle.ical_values.specs.Octets.{address_octets};
 ghost use Rattle.sched_box.specs.Faults.{StreamKeepsButRead, StreamStopsFor};
 ghost use Rattle.sched_devices.specs.Input.{ForTaken};
 ghost use Rattle.sched_devices.specs.Output.{KeepsButFailed, StopsWriting};
+ghost use Rattle.sched_cli.specs.Blaming.{IsCheckSaid, SaysBlamed};
 ghost use Rattle.sched_cli.specs.Commands.{BlamesDevice, CutsKept, CutsVerdict, IsStatusSaid, ServesWith, WritesKept, KeepsBoth, KeepsNone, RefusesToKeep, TellsDevice, WritesVerdict, verdict_line, verdict_status, no_line};
 
+use crate::blamed::say_blamed;
 use crate::status::{DONE, NO, report_memory, report_stream, report_write};
 use clash_check::{Checked, Verdict, Why, check};
 use ical_values::Address;
@@ -109,7 +111,7 @@ pub(crate) fn write_out<W: Output, E: Output>(writer: &mut W, errors: &mut E, oc
 }
 
 /// `check`: does the certificate hold for the calendar of this room? Writes `yes`, or `no` with its number, and
-/// for 81 the line, for 83 the pair.
+/// for 81 the line, for 83 the pair. Of a calendar that is refused it says which UID that is for, if it is known.
 pub fn run_check<W: Output, E: Output>(
     alloc: Global,
     calendar: &[u8],
@@ -126,26 +128,47 @@ pub fn run_check<W: Output, E: Output>(
     ensures device { BlamesDevice false (W.has_failed writer.new) result }
     ensures told { TellsDevice result false false (W.has_failed writer.old) (W.has_failed writer.new) }
     ensures status { (result ≤ 1) ⊎ (result ≡ 4) ⊎ (result ≡ 5) }
-    ensures said { IsStatusSaid result (E.contents errors.old) (E.contents errors.new) (E.may_lose errors.new) }
+    ensures said { IsCheckSaid result calendar.now (E.contents errors.old) (E.contents errors.new) (E.may_lose errors.new) }
 {
     let Ok(checked) = check(alloc, calendar, certificate, room) else {
         return report_memory(errors);
     };
     match print_verdict(alloc, writer, checked) {
-        Ok(()) => status_of(checked),
+        Ok(()) => close_check(alloc, calendar, room, checked, errors),
         Err(fault) => report_write(errors, fault),
     }
 }
 
-fn status_of(checked: Checked) -> u8
+/// Says of a calendar that is refused which UID that is for, and gives the status for the checker's answer.
+fn close_check<E: Output>(
+    alloc: Global,
+    calendar: &[u8],
+    room: &Address,
+    checked: Checked,
+    errors: &mut E,
+) -> u8
     ensures yes { result ≡ 0 → checked.verdict ≡ Verdict.Yes }
     ensures no { result ≡ 1 → checked.verdict ≡ Verdict.Yes → ⊥ }
     ensures value { result ≡ verdict_status checked.verdict }
     ensures range { result ≤ 1 }
+    ensures quiet { result ≡ 0 → Keeps (E.contents errors.old) (E.contents errors.new) }
+    ensures said { result ≡ 1 → SaysBlamed calendar.now (E.contents errors.old) (E.contents errors.new) (E.may_lose errors.new) }
 {
     match checked.verdict {
         Verdict::Yes => DONE,
-        Verdict::No(_) => NO,
+        Verdict::No(why) => {
+            say_why(alloc, calendar, room, why, errors);
+            NO
+        }
+    }
+}
+
+/// Says what the checker's no leaves out: of a calendar that is refused which UID that is for.
+fn say_why<E: Output>(alloc: Global, calendar: &[u8], room: &Address, why: Why, errors: &mut E)
+    ensures { SaysBlamed calendar.now (E.contents errors.old) (E.contents errors.new) (E.may_lose errors.new) }
+{
+    if why.number == Why::CALENDAR {
+        say_blamed(alloc, calendar, room, errors);
     }
 }
 
