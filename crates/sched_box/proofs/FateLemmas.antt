@@ -3,17 +3,16 @@
 use Rattle.std.proofs.Common.{◌≡◌, ◌∙◌, ℕ, ℤ, Bool, true, false, not, ◌&&◌, ◌||◌, List, [], ◌∷◌, length, inl, inr, refl, sym, ap, subst, arith}
 use Rattle.std.specs.Prelude.{nat_lt, if◌then◌else◌}
 use Rattle.std.specs.List.{AllZip, Contains, list_any}
-use Rattle.std.proofs.lemmas.Bool.{and_parts, both_ways, cases_Bool, false_from_ne_true, true≢false}
+use Rattle.std.proofs.lemmas.Bool.{both_ways, cases_Bool, false_from_ne_true, true≢false}
 use Rattle.std.proofs.lemmas.List.Elements.{Contains-append_cases, Contains-push_cases}
 use Rattle.profile.specs.events.EventComponents.{EventComponent, Method}
 use Rattle.profile.specs.events.Messages.{Message}
-use Rattle.profile.specs.rooms.Messages.{Content, Outcome, IsBody, cancels, is_cancel, parts_for}
+use Rattle.profile.specs.rooms.Messages.{Content, Outcome, IsBody, is_cancel, parts_for}
 use Rattle.profile.specs.rooms.Revisions.{Body, Part, Set, Absent, Cancelled}
 use Rattle.profile.specs.rooms.Rooms as rooms
 use Rattle.profile.specs.rooms.Rooms.{Book, Claim, Kind, Frees, KeepsConfirmed, asked, is_decision, is_fresh, is_same, is_set, is_set_body, kind_of, kind_of_outcome, parts_of}
-use Rattle.profile.specs.streams.Reports.{AllBecome, BecomesThere, CancelsNothing, Fate, FreesNothing, IsFate, Repeated, Stale, Taken, Unreached, fate_of, is_change, is_repeat, is_stale}
+use Rattle.profile.specs.streams.Reports.{AllBecome, BecomesThere, CancelsNothing, Fate, IsFate, Repeated, Stale, Taken, Unreached, fate_of, is_change, is_repeat, is_stale}
 use Rattle.profile.specs.streams.Streams.{Hosted, IsClaim}
-use Rattle.room_books.specs.Room.{TellsFreed}
 use Rattle.room_books.proofs.room_lemmas.Meetings.{filter_none}
 use Rattle.sched_box.specs.Answering.{AllTell}
 use Rattle.sched_box.specs.Journal.{InRoom, fate_in, kinds_of}
