@@ -62,6 +62,12 @@ bin/worked_examples: bin/roombox FORCE
 	@-cd crates/worked_examples && $(RT) run < /dev/null > /dev/null 2> ../../out/build.log
 	@cp crates/worked_examples/out/worked_examples bin/worked_examples || { cat out/build.log; exit 1; }
 
+# Those of commands and boxes, of which tests take the runs in memory.
+bin/command_examples: bin/roombox FORCE
+	@rm -f crates/command_examples/out/command_examples
+	@-cd crates/command_examples && $(RT) run < /dev/null > /dev/null 2> ../../out/build.log
+	@cp crates/command_examples/out/command_examples bin/command_examples || { cat out/build.log; exit 1; }
+
 # Those of schedules, of which bench takes a long one. Without its tables the program itself ends at once.
 bin/schedule_examples: bin/roombox FORCE
 	@rm -f crates/schedule_examples/out/schedule_examples
@@ -111,3 +117,30 @@ deb:
 
 clean:
 	rm -rf bin out crates/*/out
+
+.PHONY: check check-servers check-browser check-long counts
+
+# Every script of tests/ that needs the program alone, side by side: a line each, and 'N passed, M failed'. A script that lacks a tool says so, and has failed.
+# ONLY names some of them; PYTHON is one that has the modules. With CHECKED=out/try/roombox nothing is proved: that is built in minutes.
+PYTHON ?= python3
+CHECKED ?= bin/roombox
+check: $(CHECKED)
+	@$(PYTHON) tests/check.py $(CHECKED) $(ONLY)
+
+# Those that need a server of mails, calendars or logs, or mail programs; a browser; an hour, or the programs of the example crates.
+check-servers: $(CHECKED)
+	@$(PYTHON) tests/check.py $(CHECKED) --kind servers
+
+check-browser: $(CHECKED)
+	@$(PYTHON) tests/check.py $(CHECKED) --kind browser
+
+check-long: $(CHECKED) bin/worked_examples bin/schedule_examples bin/command_examples
+	@$(PYTHON) tests/check.py $(CHECKED) --kind long
+
+# What the last runs of these counted, into docs/ASSURANCE.md.
+counts:
+	@$(PYTHON) tests/check.py --counts
+
+# A program without proofs.
+out/try/%: $(shell find crates -name '*.rt')
+	@$(PYTHON) tests/tried.py $*

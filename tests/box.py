@@ -5,8 +5,7 @@ full and after a file had vanished.
 
 What is expected was written by hand from the rules in docs/GUIDE.md and docs/OPERATING.md, and never from the program's output; a run that was killed is compared with one
 that wasn't. FOLDER is where the folders of the tests are made, on the disk that is to be tried; where none is given, it is the system's for temporary
-files. A test that needs another user, a mount or strace says so and is left out where there is none. It prints each case that fails, and ends with 1
-where one did. Most of its time is that of the disk: 20,000 answers, each synced before it gets its name and after it.
+files. It needs root, for other users and a mount, and strace. Most of its time is that of the disk: 20,000 answers, each synced before it gets its name and after it.
 """
 
 import os
@@ -22,26 +21,22 @@ import tempfile
 import time
 from pathlib import Path
 
-from guide import Cases, without_reason
+from lib.cases import Cases
+from lib.program import MEMORY, of_arguments, without_reason
+from lib.streams import OWN_HEAD, crlf, folded
+from lib.streams import R1 as ROOM
+from lib.streams import ROOM as CONFIG
 
-ROOT = Path(__file__).resolve().parent.parent
-PROGRAM = str(Path(sys.argv[1] if len(sys.argv) > 1 else ROOT / "bin" / "roombox").resolve())
-ROOM = "mailto:r1@example.com"
-CONFIG = f"room {ROOM}\n"
+PROGRAM = of_arguments()
 NOW = "20250102T000000Z"
 TEMPORARY = ".roombox-temporary"
 DONE, DEVICE, REFUSED = (0, "", ""), (4, "", "roombox: device\n"), (3, "", "roombox: refused 90\n")
 NOBODY = 65_534
 SEED = 20_250_102
 MANY, KILLS = 10_000, 100
-MEMORY = Path("/dev/shm")
 
 
 # ---- messages, answers and folders
-
-
-def crlf(*lines):
-    return "".join(line + "\r\n" for line in lines)
 
 
 def request(uid, start, *length, room=ROOM):
@@ -50,17 +45,10 @@ def request(uid, start, *length, room=ROOM):
     return crlf("BEGIN:VCALENDAR", "VERSION:2.0", "METHOD:REQUEST", "BEGIN:VEVENT", *event, "END:VEVENT", "END:VCALENDAR")
 
 
-def folded(line):
-    """The line, of ASCII alone, in pieces of 75 octets at most; each but the first begins with a space."""
-    pieces = [line[:75]]
-    pieces += [" " + line[at:at + 74] for at in range(75, len(line), 74)]
-    return pieces
-
-
 def reply(uid, now, word, status):
     """What a room answers to such a request."""
-    event = [f"UID:{uid}", "SEQUENCE:0", f"DTSTAMP:{now}", "ORGANIZER:mailto:ann@example.com", f"ATTENDEE;PARTSTAT={word}:{ROOM}", *folded(f"REQUEST-STATUS:{status}")]
-    return crlf("BEGIN:VCALENDAR", "VERSION:2.0", "PRODID:-//iTIP room box//EN", "METHOD:REPLY", "BEGIN:VEVENT", *event, "END:VEVENT", "END:VCALENDAR")
+    event = [f"UID:{uid}", "SEQUENCE:0", f"DTSTAMP:{now}", "ORGANIZER:mailto:ann@example.com", f"ATTENDEE;PARTSTAT={word}:{ROOM}", f"REQUEST-STATUS:{status}"]
+    return folded([*OWN_HEAD, "METHOD:REPLY", "BEGIN:VEVENT", *event, "END:VEVENT", "END:VCALENDAR"]).decode()
 
 
 def accepted(uid, now=NOW):
@@ -262,8 +250,7 @@ def comparisons(cases, parent):
 def comparison_calls(cases, parent):
     """A comparison calls nothing that writes or syncs."""
     if not shutil.which("strace"):
-        print("left out: the calls of a comparison (no strace)")
-        return
+        return cases.lacks("the calls of a comparison", "strace")
     boxes = Boxes(parent)
     boxes.put(named(1), request("a", "20250310T090000Z", "DURATION:PT1H"))
     boxes.put(named(2), request("b", "20250310T100000Z", "DURATION:PT1H"))
@@ -448,8 +435,7 @@ def temporary_in_a_listing(cases, parent):
 def order_of_calls(cases, parent):
     """The folder is synced before anything else is done in it; each answer is synced before it gets its name, and the folder after that."""
     if not shutil.which("strace"):
-        print("left out: the order of the calls (no strace)")
-        return
+        return cases.lacks("the order of the calls", "strace")
     boxes = Boxes(parent)
     for number in (1, 2):
         boxes.put(named(number), request(f"m{number}", f"20250310T{8 + number:02}0000Z", "DURATION:PT1H"))
@@ -486,8 +472,7 @@ def failing_calls(cases, parent):
     """Each call of the system on the folders fails in turn, once in each run: the run ends with 4, and leaves the answers to the first files; the next one
     answers all of them. An interrupted call is made again."""
     if not shutil.which("strace"):
-        print("left out: calls that fail (no strace)")
-        return
+        return cases.lacks("calls that fail", "strace")
     boxes = Boxes(parent)
     for number in (1, 2):
         boxes.put(named(number), request(f"m{number}", f"20250310T{8 + number:02}0000Z", "DURATION:PT1H"))
@@ -611,7 +596,7 @@ def full_disk(cases, parent):
         finally:
             subprocess.run(["umount", str(boxes.outbox)], check=True)
     else:
-        print("left out: a full disk (no mount)")
+        cases.lacks("a full disk", "a mount")
     shutil.rmtree(others.outbox)
     # no file may be longer than a hundred octets
     boxes = Boxes(parent)
@@ -656,8 +641,8 @@ def main():
         os.chmod(parent, 0o755)
         for part in parts:
             part(cases, parent)
-    print(f"{cases.count} cases, {cases.failed} failed")
-    sys.exit(1 if cases.failed else 0)
+    cases.end()
 
 
-main()
+if __name__ == "__main__":
+    main()

@@ -8,7 +8,7 @@ client (python3-caldav) and by the server itself, which expands series and says 
 by dateutil and zoneinfo from the meetings, and never taken from what came out.
 
 The server has a folder, two ports and users of its own, and is stopped at the end. It wants root and Debian's packages cyrus-caldav, cyrus-imapd and
-python3-caldav: if one is missing, that is said and nothing is tried. It prints each case that fails, and ends with 1 if one did.
+python3-caldav.
 """
 
 import base64
@@ -18,7 +18,6 @@ import os
 import re
 import socket
 import subprocess
-import sys
 import tempfile
 import time
 from datetime import datetime, timedelta, timezone
@@ -27,10 +26,10 @@ from zoneinfo import ZoneInfo
 
 from dateutil.rrule import rrulestr
 
-from guide import Cases
+from lib.cases import Cases
+from lib.program import ROOT, of_arguments
 
-ROOT = Path(__file__).resolve().parent.parent
-PROGRAM = str(Path(sys.argv[1] if len(sys.argv) > 1 else ROOT / "bin" / "roombox").resolve())
+PROGRAM = of_arguments()
 PYTHON = "/usr/bin/python3"
 CYRUS = Path("/usr/lib/cyrus/bin")
 NEEDED = {"cyrus-caldav": CYRUS / "httpd", "cyrus-imapd": CYRUS / "imapd", "python3-caldav": Path("/usr/lib/python3/dist-packages/caldav")}
@@ -475,11 +474,11 @@ def shown(cases, server, rooms):
 
 
 def main():
+    cases = Cases()
     missing = [name for name, path in NEEDED.items() if not path.exists()] + ([] if os.geteuid() == 0 else ["root"])
     if missing:
-        print(f"not tried: {', '.join(missing)} missing")
-        return 0
-    cases = Cases()
+        cases.lacks("the rooms of a server", " and ".join(missing))
+        cases.end()
     with tempfile.TemporaryDirectory() as folder:
         os.chmod(folder, 0o755)
         server = Server(str(Path(folder, "cyrus")))
@@ -490,9 +489,8 @@ def main():
         finally:
             server.stop()
     print(f"{len(kinds)} messages of Cyrus, {kinds.count('CANCEL')} of them CANCEL, and {hours} instances read back")
-    print(f"{cases.count} cases, {cases.failed} failed")
-    return 1 if cases.failed else 0
+    cases.end()
 
 
 if __name__ == "__main__":
-    sys.exit(main())
+    main()

@@ -1,37 +1,65 @@
-"""Makes random calendars of one room and says what `roombox check` must answer to them. What a calendar says is what icalendar, a library of
-Python, parses of its text; its local times are read by zoneinfo; and which instances it confirms is worked out here, from docs/REFERENCE.md. So
-nothing of roombox, and nothing that the maker of the text knows, is in the answers.
+"""Makes random calendars of one room, and compares what `roombox check` answers with what it must. What a calendar says is what icalendar, a library of
+Python, parses of its text; its local times are read by zoneinfo; and which instances it confirms is worked out here, from docs/REFERENCE.md. So nothing of
+roombox, and nothing that the maker of the text knows, is in the answers.
 
-    python3 tests/calendars_by_icalendar.py --rows CALENDARS [SEED]
-    python3 tests/calendars_by_icalendar.py --events
+    python3 tests/calendars_by_icalendar.py bin/roombox [--calendars 100] [--seed 1]
 
-The first writes rows for the crate worked_examples, `data/calendars.txt`, and on standard output the lines of its `stdout`: of 20 calendars 9
-are clear, 9 have a clash, one has a series and one a wrong count in its certificate. With 300 and no SEED they are the rows that are there.
-
-The second has icalendar parse the events of `data/events.txt`, expands what it says with dateutil's rruleset, and compares that with their
-lines in `stdout`.
+Of 20 calendars 9 are clear, 9 have a clash, one has a series and one a wrong count in its certificate. Then the rows of the crate worked_examples are judged in
+the same way, `data/calendars.txt` by their lines of `stdout`; and icalendar parses the events of `data/events.txt`, what it says is expanded with dateutil's
+rruleset, and that is compared with their lines.
 
 The years are 2009 to 2037: in these the zones have the rules that their VTIMEZONEs say. The durations are read by the library's pattern, since
-its own value makes one number of days and seconds.
+its own value makes one number of days and seconds. It needs Debian's python3-icalendar.
 """
 
+import argparse
 import random
-import sys
-from datetime import datetime, timedelta
+from datetime import datetime, timedelta, timezone
 from functools import cache
 from itertools import combinations
-from pathlib import Path
 from zoneinfo import ZoneInfo
 
 from dateutil.rrule import rruleset, rrulestr
-from events_by_dateutil import UTC, in_seconds, later, means, stamp, written
 from icalendar import Calendar
 from icalendar.cal import types_factory
 from icalendar.prop import DURATION_REGEX, vDuration
 
-CRATE = Path(__file__).resolve().parent.parent / "crates" / "worked_examples"
-ROOM = "mailto:r1@example.com"
+from lib.cases import Cases
+from lib.program import ROOT, checked, of_arguments
+from lib.streams import folded
+from lib.streams import R1 as ROOM
+from lib.zones import seconds
+
+UTC = timezone.utc
+CRATE = ROOT / "crates" / "worked_examples"
 DAY, HALF_HOUR = timedelta(days=1), timedelta(minutes=30)
+
+
+# ---- instants, without their zone: this script asks zoneinfo itself
+
+
+def written(local):
+    return local.strftime("%Y%m%dT%H%M%S")
+
+
+def stamp(instant):
+    return written(instant) + "Z"
+
+
+def means(local, zone):
+    """The instant that a local time means: the first of two; in a gap with the offset before."""
+    return local.replace(tzinfo=zone).astimezone(UTC).replace(tzinfo=None) if zone else local
+
+
+def later(instant, days, seconds, zone):
+    """So many days later by the clocks of the zone, and then so many seconds."""
+    if days:
+        instant = means(local_time(instant, zone or UTC) + timedelta(days=days), zone)
+    return instant + timedelta(seconds=seconds)
+
+
+def in_seconds(at, slot, end):
+    return f"{seconds(slot)} {seconds(at)} {seconds(end)}"
 
 
 # ---- what a calendar says
@@ -342,11 +370,6 @@ def meetings(count):
     return list(dict.fromkeys(random.choices(every, weights, k=count)))
 
 
-def folded(line):
-    """A line of at most 75 octets, and its continuations, each after a space."""
-    return line[:75] + "".join("\r\n " + line[place:place + 74] for place in range(75, len(line), 74))
-
-
 def made():
     """The text of a calendar."""
     times = Times()
@@ -358,54 +381,66 @@ def made():
     zones = [vtimezone(zone) for zone in times.zones if one_in(8) or any(zone in line for line in lines)]
     parts = parts + zones if one_in(6) else zones + parts
     lines = ["BEGIN:VCALENDAR", "VERSION:2.0", *[line for part in parts for line in part], "END:VCALENDAR"]
-    return "".join(folded(line) + "\r\n" for line in lines)
+    return folded(lines).decode()
 
 
-# ---- rows
+# ---- what is answered
 
 
 CLEAR, CLASH, SERIES, WRONG = "clear", "a clash", "a series", "a wrong count"
 KINDS = [CLEAR, CLASH] * 9 + [SERIES, WRONG]
 
 
+def judged(text, singles):
+    """What is answered to a calendar and a certificate of so many singles: what the program prints, and how many instances it makes."""
+    series, count, clash = said(Calendar.from_ical(text).walk("VEVENT"))
+    if series or singles != count:
+        return "no 82", 0
+    return "no 84" if clash else "yes", count
+
+
 def case(kind):
-    """A calendar of that kind, how many singles its certificate says, and what is answered; None where none came of it."""
+    """A calendar of that kind, and how many singles its certificate says; None where none came of it."""
     text = made()
     events = Calendar.from_ical(text).walk("VEVENT")
     if not events or not is_well_formed(events):
         return None
     series, count, clash = said(events)
-    if kind == SERIES:
-        return (text, count, "no 82 0 0, 0 made") if series else None
-    if series:
+    if bool(series) != (kind == SERIES):
         return None
     if kind == WRONG:
-        return text, random.choice([number for number in (count - 1, count + 1, count + 2) if number >= 0]), "no 82 0 0, 0 made"
+        return text, random.choice([number for number in (count - 1, count + 1, count + 2) if number >= 0])
     # nearly all of those that are clear have something that could clash
-    if clash != (kind == CLASH) or count < 2 and random.randrange(8):
+    if kind != SERIES and (clash != (kind == CLASH) or count < 2 and random.randrange(8)):
         return None
-    return text, count, f"no 84 0 0, {count} made" if clash else f"yes, {count} made"
+    return text, count
 
 
-def spelled(text):
-    """As the tables of the crate spell octets."""
-    return text.replace("\\", "\\\\").replace("\r", "\\r").replace("\n", "\\n")
+def certificate(singles):
+    return f"ROOMCERT 1\nSINGLES {singles}\nSERIES 0\nDONE\n"
 
 
-def write_rows(count):
-    """Writes so many rows, and prints what the crate must print of them."""
-    rows = []
-    while len(rows) < count:
-        kind = KINDS[len(rows) % len(KINDS)]
-        one = case(kind)
-        if one is None:
-            continue
-        text, singles, answer = one
-        name = f"calendar {len(rows) + 1} by icalendar, {kind}"
-        certificate = spelled(f"ROOMCERT 1\nSINGLES {singles}\nSERIES 0\nDONE\n")
-        rows.append(f"{name} | text | {spelled(text)} | check {ROOM} {certificate}\n")
-        print(f"{name}: {answer}")
-    (CRATE / "data" / "calendars.txt").write_text("".join(rows), encoding="utf-8")
+def calendars(cases, program, count):
+    tried = 0
+    while tried < count:
+        one = case(KINDS[tried % len(KINDS)])
+        if one:
+            tried += 1
+            cases.holds(f"calendar {tried}, {one[0]!r}", checked(program, one[0], certificate(one[1]), ROOM)[1], judged(*one)[0] + "\n")
+
+
+def told(word):
+    return dict(line.split(": ", 1) for line in (CRATE / "stdout").read_text(encoding="utf-8").splitlines() if line.startswith(word))
+
+
+def rows(cases):
+    answers = told("calendar ")
+    for row in (CRATE / "data" / "calendars.txt").read_text(encoding="utf-8").splitlines():
+        name, _, text, asked = row.split(" | ")
+        # as the tables of the crate spell octets
+        text = "\\".join(it.replace("\\r", "\r").replace("\\n", "\n") for it in text.split("\\\\"))
+        answer, made = judged(text, int(asked.partition("SINGLES ")[2].partition("\\")[0]))
+        cases.holds(name, answers[name], f"{answer}{' 0 0' * (answer != 'yes')}, {made} made")
 
 
 # ---- the events of the other table
@@ -438,29 +473,28 @@ def first_shared(step, found):
     return in_seconds(*shared[0]) if shared else "none"
 
 
-def compare_events():
-    """Compares the table of events with what the library parses of them."""
-    told = dict(line.split(": ", 1) for line in (CRATE / "stdout").read_text(encoding="utf-8").splitlines() if line.startswith("event "))
-    compared = many = different = 0
+def events(cases):
+    """The table of events, and what the library parses of them: how many instances they have."""
+    many, lines = 0, told("event ")
     for row in (CRATE / "data" / "events.txt").read_text(encoding="utf-8").splitlines():
         name, _, text, _, *steps = row.split(" | ")
-        events = Calendar.from_ical(text.replace("\\r\\n", "\r\n")).walk("VEVENT")
-        found = expanded(events)
+        found = expanded(Calendar.from_ical(text.replace("\\r\\n", "\r\n")).walk("VEVENT"))
         answers = [", ".join(in_seconds(*one) for one in found[:12])] + [first_shared(step, found) for step in steps]
-        compared += 1
         many += len(found)
-        if " | ".join(answers) != told[name]:
-            different += 1
-            print(name, " | ".join(answers), told[name], sep="\n")
-    print(f"{compared} events, {many} instances, {different} different")
-    sys.exit(1 if different else 0)
+        cases.holds(name, " | ".join(answers), lines[name])
+    return many
 
 
 def main():
-    if sys.argv[1] == "--events":
-        compare_events()
-    random.seed(int(sys.argv[3]) if len(sys.argv) > 3 else 1)
-    write_rows(int(sys.argv[2]))
+    parser = argparse.ArgumentParser()
+    parser.add_argument("program", nargs="?")
+    parser.add_argument("--calendars", type=int, default=100)
+    parser.add_argument("--seed", type=int, default=1)
+    words, cases = parser.parse_args(), Cases()
+    random.seed(words.seed)
+    calendars(cases, of_arguments(), words.calendars)
+    rows(cases)
+    cases.end(f"{events(cases)} instances of events")
 
 
 if __name__ == "__main__":

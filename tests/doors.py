@@ -1,20 +1,21 @@
-#!/usr/bin/env python3
 """Runs `roombox adapt` on the objects of real programs (tests/producers) and on cases of its own, there and back.
 
     python3 tests/doors.py bin/roombox
 
 Each object has to be read afterwards, to differ from what came in only in its VTIMEZONEs, and to have the instances that Python's zoneinfo
-computes by the name of its zone. What the cases have to give is written by hand. Ends with 1 where something else came out.
+computes by the name of its zone. What the cases have to give is written by hand.
 """
 
 import datetime as dt
 import subprocess
-import sys
 import tempfile
 import zoneinfo
 from pathlib import Path
 
-from dateutil.rrule import rrulestr
+from lib.calendars import expansion
+from lib.cases import Cases
+from lib.program import of_arguments
+from lib.zones import Known, Zone, moment, stamp
 
 FOLDER = Path(__file__).parent / "producers"
 # the objects of doors.txt
@@ -34,18 +35,11 @@ NAMES = {
     "EST": "America/New_York",  # vobject names it so
 }
 # khal states the change on each side of the start and no other: from this instant on its text says one offset for ever
-STATED = {"khal--03-weekly-endless.ics": (dt.datetime(2025, 11, 2, 6), dt.timedelta(hours=-5))}
+STATED = {"khal--03-weekly-endless.ics": (moment("20251102T060000Z"), -5 * 3600)}
 # refused without FILE: what they bear is no VTIMEZONE at all
 WITHOUT_ZONES = {"kde--07b-instance-moved.ics": "43", "sabre--02-single-tzid.ics": "43"}
 
-faults = []
-
-
-def expect(name, found, wanted):
-    """Counts what isn't as it has to be."""
-    if found != wanted:
-        faults.append(name)
-        print(f"{name}: {found!r}, not {wanted!r}")
+cases = Cases()
 
 
 def run(program, *words, given):
@@ -85,17 +79,6 @@ def without_zones(octets):
 
 # ---- the objects of real programs
 
-def event_of(octets):
-    """The lines of the VEVENT: of each property its parameters and its value."""
-    lines = lines_of(octets)
-    event = lines[lines.index("BEGIN:VEVENT"):lines.index("END:VEVENT")]
-    properties = {}
-    for line in event:
-        name, _, rest = line.partition(";") if ";" in line.partition(":")[0] else line.partition(":")
-        properties.setdefault(name, []).append(line)
-    return properties
-
-
 def time_of(line):
     """The local time of a line, and the name of its zone: UTC for a time in UTC, and, as nothing else is said, for one without zone."""
     text = line.rpartition(":")[2]
@@ -106,39 +89,49 @@ def time_of(line):
     return dt.datetime.strptime(text.rstrip("Z"), FORM), name
 
 
+class Stated(Known):
+    """The clocks of a zone, but those of one offset from some local time on."""
+
+    def __init__(self, name, since, offset):
+        super().__init__(name)
+        self.since, self.stated = since, offset
+
+    def means(self, local):
+        return local - self.stated if local - self.stated >= self.since else super().means(local)
+
+
+class Names(dict):
+    """The clocks of the zones that the producers name."""
+
+    def __init__(self, file):
+        super().__init__()
+        self.file = file
+
+    def __missing__(self, name):
+        known = NAMES.get(name, name)
+        return Stated(known, *STATED[self.file]) if self.file in STATED else Known(known)
+
+
 def wanted_starts(file, octets):
     """The starts by zoneinfo, or by the producer's own text where that says otherwise."""
-    event = event_of(octets)
-    start, name = time_of(event["DTSTART"][0])
-    zone = zoneinfo.ZoneInfo(NAMES.get(name, name))
-    locals_ = [start] + [time_of(line)[0] for line in event.get("RDATE", [])]
-    if "RRULE" in event:
-        rule, _, until = event["RRULE"][0].removeprefix("RRULE:").partition(";UNTIL=")
-        last = dt.datetime.strptime(until, FORM + "Z") if until else END
-        last = last.replace(tzinfo=UTC).astimezone(zone).replace(tzinfo=None)
-        locals_ = rrulestr(rule, dtstart=start).between(start, last, inc=True)
-    instants = []
-    for local in locals_:
-        instant = local.replace(tzinfo=zone).astimezone(UTC).replace(tzinfo=None)
-        since, offset = STATED.get(file, (dt.datetime.max, None))
-        instants.append(local - offset if local - (offset or dt.timedelta()) >= since else instant)
-    return [instant.strftime(FORM + "Z") for instant in instants if instant < END]
+    found = [stamp(start) for start, _, _ in expansion(octets.decode(), Names(file), Zone(), int(MOST))]
+    return [start for start in found if start < END.strftime(FORM)]
 
 
 def producers(program, zones):
     files = sorted(FOLDER.glob("*.ics"))
-    expect("how many objects there are", len(files), 25)
+    cases.holds("how many objects there are", len(files), 25)
     for file in files:
         octets = file.read_bytes()
         out, _ = adapted(program, octets)
         said = run(program, "explain", given=out).stdout.decode().splitlines()[0]
         if file.name in WITHOUT_ZONES:
-            expect(f"{file.name} without FILE", said.split()[:2], ["refused", WITHOUT_ZONES[file.name]])
+            cases.holds(f"{file.name} without FILE", said.split()[:2], ["refused", WITHOUT_ZONES[file.name]])
             out, _ = adapted(program, octets, zones)
             said = run(program, "explain", given=out).stdout.decode().splitlines()[0]
-        expect(f"{file.name}: read", said, "not refused: a REQUEST")
-        expect(f"{file.name}: other lines", without_zones(out), without_zones(octets))
-        expect(f"{file.name}: instances", instances(program, out), wanted_starts(file.name, octets))
+        cases.holds(f"{file.name}: read", said, "not refused: a REQUEST")
+        cases.holds(f"{file.name}: other lines", without_zones(out), without_zones(octets))
+        cases.holds(f"{file.name}: instances", instances(program, out), wanted_starts(file.name, octets))
 
 
 # ---- cases
@@ -183,15 +176,15 @@ def two(change):
 
 
 def stays(program, name, octets, zones=None):
-    expect(name, adapted(program, octets, zones), (octets, []))
+    cases.holds(name, adapted(program, octets, zones), (octets, []))
 
 
 def becomes(program, name, octets, *starts, zones=None, report="roombox: object 1: made readable"):
     """It becomes readable, with these first starts, and only its VTIMEZONEs are others."""
     out, said = adapted(program, octets, zones)
-    expect(f"{name}: report", said, [report])
-    expect(f"{name}: starts", instances(program, out)[:len(starts)], list(starts))
-    expect(f"{name}: other lines", without_zones(out), without_zones(octets))
+    cases.holds(f"{name}: report", said, [report])
+    cases.holds(f"{name}: starts", instances(program, out)[:len(starts)], list(starts))
+    cases.holds(f"{name}: other lines", without_zones(out), without_zones(octets))
     return out
 
 
@@ -202,7 +195,7 @@ def where_tables_end(program):
         out = becomes(program, f"a pair with UNTIL {until} goes on", calendar(pair(until), event(WEEKLY)), "20250311T080000Z",
                       report="roombox: object 1: Z goes on after its last onset")
         late = run(program, "expand", "--limit", "1000", given=out).stdout.decode()
-        expect(f"summer 2038 after a pair with UNTIL {until}", "20380706T070000Z" in late, True)
+        cases.holds(f"summer 2038 after a pair with UNTIL {until}", "20380706T070000Z" in late, True)
     becomes(program, "a pair with UNTIL 2030 for a single", calendar(pair("2030"), event()), "20250311T080000Z")
 
 
@@ -219,8 +212,8 @@ def missing_zones(program, folder):
     own = calendar(two("20250310T090000"), event(WEEKLY))
     becomes(program, "FILE gives way to the object", own, "20250311T070000Z", zones=file)
     out, said = adapted(program, missing + missing, file)
-    expect("a zone that two objects use: report", said, [f"roombox: object {k}: made readable" for k in (1, 2)])
-    expect("a zone that two objects use: octets", out, adapted(program, missing, file)[0] * 2)
+    cases.holds("a zone that two objects use: report", said, [f"roombox: object {k}: made readable" for k in (1, 2)])
+    cases.holds("a zone that two objects use: octets", out, adapted(program, missing, file)[0] * 2)
 
 
 def first_used_time(program):
@@ -237,7 +230,7 @@ def times_that_end(program):
     stays(program, "UNTIL across three dates", calendar(DATES, event(WEEKLY + ";UNTIL=20260501T000000Z")))
     stays(program, "no end in a zone of dates", calendar(DATES, event(WEEKLY)))
     out = becomes(program, "a nominal day across a change", calendar(pair(), event("DURATION:P1D", start="20250329T120000")), "20250329T110000Z")
-    expect("its length", run(program, "expand", given=out).stdout, b"20250329T110000Z 20250329T110000Z 82800\n")
+    cases.holds("its length", run(program, "expand", given=out).stdout, b"20250329T110000Z 20250329T110000Z 82800\n")
     stays(program, "a nominal day in a zone of dates", calendar(DATES, event("DURATION:P1D", start="20250405T120000")))
 
 
@@ -253,9 +246,9 @@ def spellings(program):
     folded = whole.replace(b"BYMONTH=3;", b"BYMO\r\n NTH=3;").replace(b"DTSTART;TZID=Z:2025", b"DTSTART;TZ\r\n ID=Z:20\r\n 25")
     becomes(program, "folded lines", folded, "20250311T080000Z", "20250318T080000Z")
     out = becomes(program, "lines ended by LF", calendar(pair(), event(WEEKLY), end="\n"), "20250311T080000Z")
-    expect("they stay so", b"\nBEGIN:VEVENT\nUID:u\n" in out, True)
+    cases.holds("they stay so", b"\nBEGIN:VEVENT\nUID:u\n" in out, True)
     out = becomes(program, "lines ended by CRLF", whole, "20250311T080000Z")
-    expect("they stay too", b"\r\nBEGIN:VEVENT\r\nUID:u\r\n" in out, True)
+    cases.holds("they stay too", b"\r\nBEGIN:VEVENT\r\nUID:u\r\n" in out, True)
 
 
 def other_zones(program):
@@ -263,7 +256,7 @@ def other_zones(program):
     stays(program, "a zone that a room reads", calendar(zone(part("STANDARD", "20000101T000000", "+0000", "+0100")), event(WEEKLY)))
     unused = "\r\n".join(pair("2030", name="Unused")).encode()
     out = becomes(program, "a VTIMEZONE that no time names", calendar(pair("2030", name="Unused"), pair(), event(WEEKLY)), "20250311T080000Z")
-    expect("it stays as it is", unused in out, True)
+    cases.holds("it stays as it is", unused in out, True)
     becomes(program, "of two VTIMEZONEs of one name the first", calendar(two("20200101T000000"), pair(), event(WEEKLY)), "20250311T070000Z")
     stays(program, "of two VTIMEZONEs of one name the first isn't had", calendar(pair("2030"), pair(), event(WEEKLY)))
 
@@ -292,12 +285,12 @@ def behind_a_preamble(program):
     """An object is made readable behind a preamble too, whose lines stay as they are; so is one in lower case."""
     alone = (FOLDER / "gnome--03-weekly-endless.ics").read_bytes()
     readable, _ = adapted(program, alone)
-    expect("an object without a preamble changes", readable != alone, True)
+    cases.holds("an object without a preamble changes", readable != alone, True)
     for end in ("\r\n", "\n"):
         preamble = PREAMBLE.format("room1@example.com").replace("\r\n", end).encode()
-        expect(f"behind a preamble with {end!r}", adapted(program, preamble + alone)[0], preamble + readable)
+        cases.holds(f"behind a preamble with {end!r}", adapted(program, preamble + alone)[0], preamble + readable)
     lower = alone.replace(b"BEGIN:VCALENDAR", b"begin:vcalendar", 1)
-    expect("an object in lower case", adapted(program, lower)[0], readable.replace(b"BEGIN:VCALENDAR", b"begin:vcalendar", 1))
+    cases.holds("an object in lower case", adapted(program, lower)[0], readable.replace(b"BEGIN:VCALENDAR", b"begin:vcalendar", 1))
 
 
 def octet_by_octet(program, words, octets):
@@ -319,11 +312,11 @@ def however_the_octets_come(program):
     fronts = [b"", b"\n", b"\r\n", b"\n\r\n\n", mark, b"\r", b"\n" + mark, b"\n \n", mark + b"\r\n"]
     alone = [front + one for front in fronts for one in objects]
     wanted = b"".join(adapted(program, one)[0] for one in alone)
-    expect("a stream of all objects", adapted(program, b"".join(alone))[0], wanted)
-    expect("its objects octet by octet", octet_by_octet(program, ["adapt"], b"".join(alone)), wanted)
-    expect("some of them are made readable", wanted != b"".join(alone), True)
+    cases.holds("a stream of all objects", adapted(program, b"".join(alone))[0], wanted)
+    cases.holds("its objects octet by octet", octet_by_octet(program, ["adapt"], b"".join(alone)), wanted)
+    cases.holds("some of them are made readable", wanted != b"".join(alone), True)
     for name, stream in streams():
-        expect(f"{name}: octet by octet", octet_by_octet(program, ["serve", "--adapt"], stream), run(program, "serve", "--adapt", given=stream).stdout)
+        cases.holds(f"{name}: octet by octet", octet_by_octet(program, ["serve", "--adapt"], stream), run(program, "serve", "--adapt", given=stream).stdout)
 
 
 def behind_the_door(program, folder, zones):
@@ -334,10 +327,10 @@ def behind_the_door(program, folder, zones):
             if "room " not in stream.decode().partition("BEGIN")[0]:
                 continue
             served = run(program, "serve", given=readable)
-            expect(f"{name}: serve", run(program, "serve", "--adapt", *words, given=stream).stdout, served.stdout)
+            cases.holds(f"{name}: serve", run(program, "serve", "--adapt", *words, given=stream).stdout, served.stdout)
             room = room_of(stream)
             kept = run(program, "keep", room, given=readable)
-            expect(f"{name}: keep", run(program, "keep", "--adapt", *words, room, given=stream).stdout, kept.stdout)
+            cases.holds(f"{name}: keep", run(program, "keep", "--adapt", *words, room, given=stream).stdout, kept.stdout)
             box = folder / "box"
             (box / "inbox").mkdir(parents=True, exist_ok=True)
             config, _, objects = stream.replace(b"\r\n", b"\n").partition(b"\n\n")
@@ -347,7 +340,7 @@ def behind_the_door(program, folder, zones):
             out = Path(tempfile.mkdtemp(dir=folder))
             run(program, "box", "--adapt", *words, str(box / "config"), str(box / "inbox"), str(out), given=b"")
             (box / "inbox" / f"00000001-{now}.ics").unlink()
-            expect(f"{name}: box", (out / f"00000001-{now}.out").read_bytes(), served.stdout)
+            cases.holds(f"{name}: box", (out / f"00000001-{now}.out").read_bytes(), served.stdout)
 
 
 # rules of other forms that ended: GNOME's of some Sundays, and libical's whole history
@@ -360,15 +353,15 @@ def histories(program, folder):
     for name in HISTORIES:
         octets = (CASES / name).read_bytes()
         stream = PREAMBLE.format("r1@example.com").encode() + octets
-        expect(f"{name}: serve alone", run(program, "serve", given=stream).stdout, b"REFUSED;OBJECT=1:40\r\n")
+        cases.holds(f"{name}: serve alone", run(program, "serve", given=stream).stdout, b"REFUSED;OBJECT=1:40\r\n")
         reply = lines_of(run(program, "serve", "--adapt", given=stream).stdout)
-        expect(f"{name}: the reply", [line for line in reply if line.startswith("ATTENDEE")], [f"ATTENDEE;PARTSTAT=ACCEPTED:{room}"])
+        cases.holds(f"{name}: the reply", [line for line in reply if line.startswith("ATTENDEE")], [f"ATTENDEE;PARTSTAT=ACCEPTED:{room}"])
         kept = run(program, "keep", "--adapt", room, given=stream).stdout
-        expect(f"{name}: instances", instances(program, kept), wanted_starts(name, octets))
+        cases.holds(f"{name}: instances", instances(program, kept), wanted_starts(name, octets))
         calendar_file, certificate = folder / "kept.ics", folder / "kept.certificate"
         calendar_file.write_bytes(kept)
         certificate.write_bytes(run(program, "keep", "--adapt", "--certificate", room, given=stream).stdout)
-        expect(f"{name}: check", run(program, "check", str(calendar_file), str(certificate), room, given=b"").stdout, b"yes\n")
+        cases.holds(f"{name}: check", run(program, "check", str(calendar_file), str(certificate), room, given=b"").stdout, b"yes\n")
 
 
 # ---- the way back
@@ -439,22 +432,22 @@ def told(program, folder, octets, answer, *words):
     file = folder / "original.ics"
     file.write_bytes(octets)
     end = run(program, "adapt", "--reply-to", str(file), *words, given=answer)
-    expect(f"status of adapt --reply-to {words}", (end.returncode, end.stderr), (0, b""))
+    cases.holds(f"status of adapt --reply-to {words}", (end.returncode, end.stderr), (0, b""))
     return end.stdout
 
 
 def in_its_words(name, original, wanted, out, zones):
     """What comes out has these VEVENTs, and the VTIMEZONEs of the original, or those of FILE, for the names in it."""
     lines = lines_of(out)
-    expect(f"{name}: VEVENTs", parts_of(lines, "VEVENT"), wanted)
+    cases.holds(f"{name}: VEVENTs", parts_of(lines, "VEVENT"), wanted)
     its, known = zones_by_name(lines), zones_by_name(lines_of(original))
     used = {time_of(line)[1] for part in wanted for line in part if "TZID=" in line}
-    expect(f"{name}: names of zones", set(its), used)
+    cases.holds(f"{name}: names of zones", set(its), used)
     for used_name, part in its.items():
         if used_name in known:
-            expect(f"{name}: VTIMEZONE {used_name}", part, known[used_name])
+            cases.holds(f"{name}: VTIMEZONE {used_name}", part, known[used_name])
         else:
-            expect(f"{name}: the VTIMEZONE is from FILE", zones is not None, True)
+            cases.holds(f"{name}: the VTIMEZONE is from FILE", zones is not None, True)
 
 
 def the_way_back(program, folder, zones):
@@ -466,18 +459,18 @@ def the_way_back(program, folder, zones):
         words = ["--zones", str(zones)] if name.startswith("kde--07b") else []
         served = run(program, "serve", "--adapt", *words, given=TWO_ROOMS + octets + b"\r\n" + refused).stdout
         answer, _, behind = served.partition(b"REFUSED")
-        expect(f"{name}: the other object is refused", b"REFUSED" + behind, REFUSED_LINE)
-        expect(f"{name}: an instance is answered", any(map(is_instance, lines_of(answer))), True)
+        cases.holds(f"{name}: the other object is refused", b"REFUSED" + behind, REFUSED_LINE)
+        cases.holds(f"{name}: an instance is answered", any(map(is_instance, lines_of(answer))), True)
         wanted = told_lines(octets, answer)
-        expect(f"{name}: the answer itself names it otherwise", wanted != parts_of(lines_of(answer), "VEVENT"), True)
+        cases.holds(f"{name}: the answer itself names it otherwise", wanted != parts_of(lines_of(answer), "VEVENT"), True)
         out = told(program, folder, octets, served, *words)
-        expect(f"{name}: the REFUSED line", out[-len(REFUSED_LINE):], REFUSED_LINE)
+        cases.holds(f"{name}: the REFUSED line", out[-len(REFUSED_LINE):], REFUSED_LINE)
         in_its_words(name, octets, wanted, out.removesuffix(REFUSED_LINE), zones if words else None)
         single = told(program, folder, octets, served, "--single", *words)
-        expect(f"{name} --single: the REFUSED line", single[-len(REFUSED_LINE):], REFUSED_LINE)
+        cases.holds(f"{name} --single: the REFUSED line", single[-len(REFUSED_LINE):], REFUSED_LINE)
         in_its_words(f"{name} --single", octets, wanted, single, zones if words else None)
         each = parts_of(lines_of(single), "VCALENDAR")
-        expect(f"{name} --single: VEVENTs of an object", [part.count("BEGIN:VEVENT") for part in each], [1] * len(wanted))
+        cases.holds(f"{name} --single: VEVENTs of an object", [part.count("BEGIN:VEVENT") for part in each], [1] * len(wanted))
 
 
 def two_moved(program, folder):
@@ -490,8 +483,8 @@ def two_moved(program, folder):
     preamble = b"now 20250102T000000Z\r\nroom mailto:r1@example.com\r\n\r\n"
     answer = run(program, "serve", "--adapt", given=preamble + moved).stdout
     wanted = told_lines(moved, answer)
-    expect("two moved: lines", sum(map(is_instance, [line for part in wanted for line in part])), sum(map(is_instance, lines_of(answer))))
-    expect("two moved: both are named", {line for part in wanted for line in part if is_instance(line)}, {line for line in lines_of(moved) if is_instance(line)})
+    cases.holds("two moved: lines", sum(map(is_instance, [line for part in wanted for line in part])), sum(map(is_instance, lines_of(answer))))
+    cases.holds("two moved: both are named", {line for part in wanted for line in part if is_instance(line)}, {line for line in lines_of(moved) if is_instance(line)})
     in_its_words("two moved", moved, wanted, told(program, folder, moved, answer), None)
 
 
@@ -506,12 +499,12 @@ def what_organisers_send(program, folder):
     for name, its_zone in (("Europe/Berlin", pair(name="Europe/Berlin")), ("America/New_York", NEW_YORK)):
         stored = with_moved(calendar(its_zone, event(WEEKLY, name=name)).replace(b"METHOD:REQUEST\r\n", b""))
         answer = run(program, "serve", "--adapt", given=preamble + stored).stdout
-        expect(f"a meeting in {name}: the zone of what is sent", set(zones_by_name(lines_of(answer))), {"Z1"})
+        cases.holds(f"a meeting in {name}: the zone of what is sent", set(zones_by_name(lines_of(answer))), {"Z1"})
         out, asked = lines_of(told(program, folder, stored, answer)), lines_of(stored)
-        expect(f"a meeting in {name}: VTIMEZONEs", zones_by_name(out), zones_by_name(asked))
-        expect(f"a meeting in {name}: instances", [line for line in out if is_instance(line)], [line for line in asked if is_instance(line)])
+        cases.holds(f"a meeting in {name}: VTIMEZONEs", zones_by_name(out), zones_by_name(asked))
+        cases.holds(f"a meeting in {name}: instances", [line for line in out if is_instance(line)], [line for line in asked if is_instance(line)])
         starts = [[instant_of(line) for line in lines if line.startswith("DTSTART;TZID")] for lines in (out, asked)]
-        expect(f"a meeting in {name}: starts", *starts)
+        cases.holds(f"a meeting in {name}: starts", *starts)
 
 
 def words_that_do_not_go(program, folder):
@@ -520,7 +513,7 @@ def words_that_do_not_go(program, folder):
     file.write_bytes(calendar(pair(), event()))
     for words, status in ((["--single"], 2), (["--reply-to", str(file), "--report"], 2), (["--reply-to"], 2), (["--reply-to", str(folder / "none")], 4),
                           (["--reply-to", str(file), "--zones", str(folder / "none")], 4)):
-        expect(f"adapt {' '.join(words)}", run(program, "adapt", *words, given=b"").returncode, status)
+        cases.holds(f"adapt {' '.join(words)}", run(program, "adapt", *words, given=b"").returncode, status)
 
 
 def what_stays(program, folder):
@@ -530,7 +523,7 @@ def what_stays(program, folder):
     unnamed = other.replace(b"BEGIN:VEVENT", ("\r\n".join([*parts_of(lines_of(octets), "VTIMEZONE")[0], "BEGIN:VEVENT"])).encode())
     for answer in (b"", b"\r\n", b"\n\r\n\n", unnamed, REFUSED_LINE * 2, b"REFUSED;OBJECT=1:40", other, b"\n" + other + b"\n" + other + REFUSED_LINE + other, other[:40], b"x"):
         for words in ([], ["--single"]):
-            expect(f"{answer[:20]!r} stays {words}", told(program, folder, octets, answer, *words), answer)
+            cases.holds(f"{answer[:20]!r} stays {words}", told(program, folder, octets, answer, *words), answer)
 
 
 def what_answers_no_object(program, folder):
@@ -540,11 +533,11 @@ def what_answers_no_object(program, folder):
         file.write_bytes(original)
         for words in ([], ["--single"]):
             end = run(program, "adapt", "--reply-to", str(file), *words, given=octets)
-            expect(f"{original[:20]!r} is refused {words}", (end.returncode, end.stdout, end.stderr), (3, b"", b"roombox: refused %d\n" % number))
+            cases.holds(f"{original[:20]!r} is refused {words}", (end.returncode, end.stdout, end.stderr), (3, b"", b"roombox: refused %d\n" % number))
 
 
 def main():
-    program = sys.argv[1]
+    program = of_arguments()
     with tempfile.TemporaryDirectory() as place:
         folder = Path(place)
         berlin = folder / "berlin.ics"
@@ -567,9 +560,8 @@ def main():
         words_that_do_not_go(program, folder)
         what_stays(program, folder)
         what_answers_no_object(program, folder)
-    print(f"{len(faults)} faults")
-    return 1 if faults else 0
+    cases.end()
 
 
 if __name__ == "__main__":
-    sys.exit(main())
+    main()

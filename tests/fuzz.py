@@ -8,7 +8,7 @@ of a new kind is spoiled again. The statuses are those of docs/roombox.1; 4 and 
 that, what `keep` prints has to pass `check`, and a second run of `box` has to find its own answers.
 
 The commands share the time; `words` are spoiled command lines. A finding is kept as a folder of what went in, the words, and what came out. The same seed
-makes the same first inputs. It prints a line for each command, and ends with 1 where something was found.
+makes the same first inputs. It prints a line for each command, and ends with 1 where something was found, or a command was never run.
 """
 
 import argparse
@@ -25,8 +25,9 @@ import time
 from pathlib import Path
 
 import guide
+from lib import program as runs
+from lib.program import ROOT, of_arguments
 
-ROOT = Path(__file__).resolve().parent.parent
 ROOM = "mailto:r1@example.com"
 NOW = b"now 20250102T000000Z\n"
 # More memory than such an input needs, in octets; the longest input; how many more inputs are kept of a command for their answers.
@@ -208,22 +209,18 @@ class Corpus:
 
     def guide(self, program):
         """What tests/guide.py hands to the program, which it is run with."""
-        ran = guide.run
-
-        def noted(name, *words, given=b""):
-            text = given if isinstance(given, bytes) else given.encode()
-            if text:
-                self.add("object" if words[:1] in (("expand",), ("explain",)) else "stream", text)
-            return ran(name, *words, given=given)
+        def noted(words, given):
+            if given:
+                self.add("object" if words[:1] in (("expand",), ("explain",)) else "stream", given)
 
         class Ignored:
             def holds(self, *_):
                 pass
 
-        guide.run = noted
+        runs.watchers.append(noted)
         for part in (guide.decisions, guide.instances, guide.added, guide.refusals, guide.zones, guide.times_in_zones, guide.whole_days, guide.rooms_in_zones, guide.rooms_of_a_zone, guide.series, guide.organisers):
             part(Ignored(), program)
-        guide.run = ran
+        runs.watchers.remove(noted)
 
 
 class Spoiler:
@@ -643,7 +640,7 @@ class Fuzz:
 
 def main():
     parser = argparse.ArgumentParser()
-    parser.add_argument("program")
+    parser.add_argument("program", nargs="?")
     parser.add_argument("--seconds", type=float, default=60)
     parser.add_argument("--command", default="")
     parser.add_argument("--seed", default="1")
@@ -651,7 +648,7 @@ def main():
     parser.add_argument("--memory", type=int, default=MEMORY)
     parser.add_argument("--findings", type=Path, default=ROOT / "out" / "fuzz")
     asked = parser.parse_args()
-    program = str(Path(asked.program).resolve())
+    program = of_arguments()
     # the programs that are run inherit the limits
     resource.setrlimit(resource.RLIMIT_CORE, (0, 0))
     if asked.memory:
@@ -667,7 +664,9 @@ def main():
             for command in commands:
                 fuzz.spoil(command, share / rounds)
         fuzz.report(commands, share)
-    return 1 if sum(fuzz.found.values()) else 0
+    found = sum(fuzz.found.values()) + sum(not fuzz.runs[command] for command in commands)
+    print(f"{sum(fuzz.runs.values())} cases, {found} failed")
+    return 1 if found else 0
 
 
 if __name__ == "__main__":

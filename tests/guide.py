@@ -3,7 +3,7 @@
     python3 tests/guide.py bin/roombox
 
 Each case says what the guide says, what goes in, and what has to come out; what is expected was written from the guide and from the RFCs, never from
-the program's output. It prints each case that fails, and ends with 1 where one did.
+the program's output.
 """
 
 import re
@@ -13,72 +13,14 @@ import sys
 import tempfile
 from pathlib import Path
 
-ROOT = Path(__file__).resolve().parent.parent
+from lib.cases import Cases
+from lib.program import ROOT, of_arguments, run
+from lib.streams import NOW, OBJECT, PREAMBLE, R1, ROOM, answers, changed, message, request, unfolded, vevent
+
 sys.path.insert(0, str(ROOT / "bench"))
 import man_page  # noqa: E402
 
-NOW = "now 20250102T000000Z\n"
 ANN = "organiser mailto:ann@example.com\n"
-ROOM = "room mailto:r1@example.com\n"
-PREAMBLE = NOW + ROOM + "\n"
-R1 = "mailto:r1@example.com"
-
-
-def vevent(uid="a", sequence=0, start="20250310T090000Z", lines=("DURATION:PT1H",), room=R1, stamp="20250101T000000Z", slot=None):
-    named = [f"RECURRENCE-ID:{slot}"] if slot else []
-    event = [f"UID:{uid}", *named, f"SEQUENCE:{sequence}", f"DTSTAMP:{stamp}", "ORGANIZER:mailto:ann@example.com", f"ATTENDEE:{room}", f"DTSTART:{start}", *lines]
-    return ["BEGIN:VEVENT", *event, "END:VEVENT"]
-
-
-def message(method, *events):
-    own = [f"METHOD:{method}"] if method else []
-    return "\r\n".join(["BEGIN:VCALENDAR", "VERSION:2.0", "PRODID:-//test//EN", *own, *(line for event in events for line in event), "END:VCALENDAR"]) + "\r\n"
-
-
-def request(uid="a", sequence=0, start="20250310T090000Z", lines=("DTEND:20250310T100000Z",), method="REQUEST", room=R1, stamp="20250101T000000Z"):
-    return message(method, vevent(uid, sequence, start, lines, room, stamp))
-
-
-def run(program, *words, given=b""):
-    given = given if isinstance(given, bytes) else given.encode()
-    ended = subprocess.run([program, *words], input=given, capture_output=True, timeout=60)
-    return ended.returncode, ended.stdout.decode(), ended.stderr.decode()
-
-
-def unfolded(text):
-    return text.replace("\r\n ", "")
-
-
-def without_reason(said):
-    """Standard error without the line of reason behind `roombox: refused 90` or `roombox: device`. Each reason has a row of its own here or in reports.py."""
-    first, _, rest = said.partition("\n")
-    has_reason = first in ("roombox: refused 90", "roombox: device") and rest.startswith("roombox: ") and rest.count("\n") == 1
-    return first + "\n" if has_reason else said
-
-
-def answers(program, *objects, preamble=PREAMBLE):
-    """The words of what is answered: ACCEPTED, DECLINED, REFRESH, or a REFUSED line."""
-    status, out, said = run(program, given=preamble + "".join(objects))
-    words = []
-    for line in unfolded(out).splitlines():
-        if line.startswith("ATTENDEE;PARTSTAT="):
-            words.append(line.split("=")[1].split(":")[0])
-        elif line.startswith("REFUSED"):
-            words.append(line)
-        elif line == "METHOD:REFRESH":
-            words.append("REFRESH")
-    return words
-
-
-class Cases:
-    def __init__(self):
-        self.count, self.failed = 0, 0
-
-    def holds(self, what, found, wanted):
-        self.count += 1
-        if found != wanted:
-            self.failed += 1
-            print(f"{what}: found {found!r}, wanted {wanted!r}")
 
 
 def preambles(cases, program):
@@ -640,20 +582,6 @@ def explained(cases, program):
         cases.holds(f"no number is in the line {line!r}", run(program, "explain", line)[:2], (2, ""))
 
 
-# An object that isn't refused, a content line each; the line of number n is OBJECT[n - 1].
-OBJECT = ["BEGIN:VCALENDAR", "VERSION:2.0", "METHOD:REQUEST", "BEGIN:VEVENT", "UID:a", "DTSTAMP:20250101T000000Z", "ORGANIZER:mailto:ann@example.com",
-          "ATTENDEE:mailto:r1@example.com", "DTSTART:20250310T090000Z", "DURATION:PT1H", "END:VEVENT", "END:VCALENDAR"]
-
-
-def changed(changes):
-    """OBJECT with other lines: of each number the text that takes its place, "" for none, several lines divided by `|`."""
-    lines = []
-    for number, line in enumerate(OBJECT, 1):
-        text = changes.get(number, line)
-        lines += text.split("|") if text else []
-    return "\r\n".join(lines) + "\r\n"
-
-
 def explained_objects(cases, program):
     """`explain` without a number: the number, and the place where one line has the fault. The lines were counted by hand, from 1."""
     zone = "BEGIN:VTIMEZONE|TZID:Z|BEGIN:STANDARD|DTSTART:19700101T000000|TZOFFSETFROM:+1|TZOFFSETTO:+0100|END:STANDARD|END:VTIMEZONE|BEGIN:VEVENT"
@@ -761,7 +689,9 @@ def explained_objects(cases, program):
     ]:
         said = run(program, "explain", given=changed(changes))[1].partition("\n")[0]
         cases.holds(f"explain never names a wrong line: {what} ({said})", said in (f"refused {wanted}", f"refused {wanted.partition(' ')[0]}"), True)
-    if shutil.which("awk"):
+    if not shutil.which("awk"):
+        cases.lacks("the recipe with awk", "awk")
+    else:
         recipe = next(line for line in (ROOT / "docs" / "GUIDE.md").read_text(encoding="utf-8").splitlines() if line.startswith("    awk "))
         stream = (PREAMBLE + changed({}) + "\r\n" + changed({5: "UID:b"}) + changed({9: "DTSTART;TZID=Z:20250310T090000"}) + changed({5: ""})).encode()
         cut = subprocess.run(["sh", "-c", recipe.partition(" stream |")[0]], input=stream, capture_output=True).stdout
@@ -837,12 +767,16 @@ def command_line(cases, program):
     cases.holds("the man page is made from the help (make man)", (ROOT / "docs" / "roombox.1").read_text(encoding="utf-8"), man_page.man_page(program))
     script = ROOT / "docs" / "roombox.bash"
     cases.holds("so is the completion", script.read_text(encoding="utf-8"), man_page.completion(program))
-    if shutil.which("bash"):
+    if not shutil.which("bash"):
+        cases.lacks("the completion", "bash")
+    else:
         for line, wanted in [("roombox ex", "expand explain"), ("roombox b", "box"), ("roombox serve --", "--report --adapt --zones --help"), ("roombox keep --c", "--certificate"), ("roombox keep ", ""), ("roombox --v", "--version")]:
             line = line.split(" ")
             made = f"source '{script}'; COMP_WORDS=({' '.join(repr(word) for word in line)}); COMP_CWORD={len(line) - 1}; _roombox; echo \"${{COMPREPLY[*]}}\""
             cases.holds(f"completed: {line}", subprocess.run(["bash", "-c", made], capture_output=True, text=True).stdout, wanted + "\n")
-    if shutil.which("groff"):
+    if not shutil.which("groff"):
+        cases.lacks("the man page as groff shows it", "groff")
+    else:
         shown = subprocess.run(["groff", "-man", "-Tutf8", "-ww", "-P-cbou", str(ROOT / "docs" / "roombox.1")], capture_output=True)
         cases.holds("groff shows the man page without a warning", (shown.returncode, shown.stderr.decode(), b"EXIT STATUS" in shown.stdout), (0, "", True))
 
@@ -969,12 +903,11 @@ def documents(cases, program):
 
 
 def main():
-    program, cases = str(Path(sys.argv[1]).resolve()), Cases()
+    cases, program = Cases(), of_arguments()
     for part in (preambles, decisions, instances, added, replies, refusals, kept, zones, times_in_zones, whole_days, rooms_in_zones, rooms_of_a_zone, series, kept_series, organisers, explained, explained_objects, reported, command_line, logged, examples, documents):
         part(cases, program)
-    print(f"{cases.count} cases, {cases.failed} failed")
-    return 1 if cases.failed else 0
+    cases.end()
 
 
 if __name__ == "__main__":
-    sys.exit(main())
+    main()

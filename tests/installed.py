@@ -2,22 +2,21 @@
 
     python3 tests/installed.py bin/roombox
 
-What is expected is what the Makefile and examples/first-request.replies say. The units of examples/systemd are looked at by systemd-analyze. A test
-that needs dpkg, man or systemd-analyze says so and is left out if there is none. It prints each case that fails, and ends with 1 if one did.
+What is expected is what the Makefile and examples/first-request.replies say. The units of examples/systemd are looked at by systemd-analyze. It
+needs dpkg, man and systemd-analyze.
 """
 
 import os
 import re
 import shutil
 import subprocess
-import sys
 import tempfile
 from pathlib import Path
 
-from guide import Cases
+from lib.cases import Cases
+from lib.program import ROOT, of_arguments
 
-ROOT = Path(__file__).resolve().parent.parent
-PROGRAM = str(Path(sys.argv[1] if len(sys.argv) > 1 else ROOT / "bin" / "roombox").resolve())
+PROGRAM = of_arguments()
 FIRST = "share/doc/roombox/examples/first-request"
 # what the first day needs, below the prefix
 NEEDED = ["bin/roombox", "share/bash-completion/completions/roombox", f"{FIRST}.ics-stream", f"{FIRST}.replies", "share/doc/roombox/README.md",
@@ -65,7 +64,7 @@ def works(cases, what, prefix):
         status, shown, _ = run("man", "-l", str(page), env={**os.environ, "MANPAGER": "cat"})
         cases.holds(f"{what}: the man page", (status, "roombox" in shown), (0, True))
     else:
-        print("left out: the man page (no man)")
+        cases.lacks(f"{what}: the man page", "man")
 
 
 def by_make(cases, parent):
@@ -96,8 +95,7 @@ def administered(parent):
 
 def by_package(cases, parent):
     if not shutil.which("dpkg-deb"):
-        print("left out: the package (no dpkg-deb)")
-        return
+        return cases.lacks("the package", "dpkg-deb")
     status, said, _ = make("deb")
     cases.holds("make deb", status, 0)
     package = next((ROOT / "out").glob("roombox_*.deb"))
@@ -125,8 +123,7 @@ def version_is_one(cases, parent):
 
 def units(cases, parent):
     if not shutil.which("systemd-analyze"):
-        print("left out: the units (no systemd-analyze)")
-        return
+        return cases.lacks("the units", "systemd-analyze")
     folder = Path(tempfile.mkdtemp(dir=parent))
     # what they start need not be installed here
     for name in UNITS:
@@ -152,9 +149,8 @@ def main():
     with tempfile.TemporaryDirectory() as parent:
         for part in (by_make, by_package, version_is_one, units, reports):
             part(cases, parent)
-    print(f"{cases.count} cases, {cases.failed} failed")
-    return 1 if cases.failed else 0
+    cases.end()
 
 
 if __name__ == "__main__":
-    sys.exit(main())
+    main()

@@ -3,20 +3,18 @@
     python3 tests/limits.py bin/roombox
 
 What has to come out is said in docs/REFERENCE.md: each beginning of an object is refused, unless it is whole but for its last line break; a room takes 10,000
-single instances and no more; a stream of more than 1,073,741,824 octets is too long. It prints each case that fails, and ends with 1 where one did. The
-other limits are rows of the example programs: 64 series, 1,048,576 octets, 201 VEVENTs, components nine deep.
+single instances and no more; a stream of more than 1,073,741,824 octets is too long. The other limits are rows of the example programs: 64 series,
+1,048,576 octets, 201 VEVENTs, components nine deep.
 """
 
 import re
 import subprocess
-import sys
-import tempfile
 from datetime import datetime, timedelta
-from pathlib import Path
 
-from guide import PREAMBLE, R1, Cases, request, run, unfolded
+from lib.cases import Cases
+from lib.program import checked, of_arguments, read, run
+from lib.streams import PREAMBLE, R1, request, unfolded
 
-DATA = Path(__file__).resolve().parent.parent / "crates" / "command_examples" / "data"
 # Objects that are cut short: a series in New York, what an organiser stores, and both with whole days; each with its preamble and what is answered to the
 # whole.
 CUT = (
@@ -29,10 +27,6 @@ BREAK = b"\r\n"
 FIRST = datetime(2025, 1, 1)
 MOST_SINGLES, MOST_DATES, MEETINGS = 10_000, 366, 28
 LONGEST_STREAM = 1_073_741_824
-
-
-def read(name):
-    return (DATA / name).read_bytes()
 
 
 def prefixes(cases, program):
@@ -78,12 +72,9 @@ def full_room(cases, program):
     cases.holds("and accepted where a meeting is cancelled", answers_of(program, full + gone + one_more), [accepted] * (MEETINGS + 1))
     long = listed("l", FIRST, MOST_DATES + 1)
     cases.holds("367 RDATEs are refused", answers_of(program, PREAMBLE + long), [("", "", "REFUSED;OBJECT=1:56")])
-    with tempfile.TemporaryDirectory() as folder:
-        calendar, certificate = Path(folder, "calendar"), Path(folder, "certificate")
-        calendar.write_text(run(program, "keep", R1, given=full + one_more)[1], newline="")
-        certificate.write_text(run(program, "keep", "--certificate", R1, given=full + one_more)[1], newline="")
-        cases.holds("the certificate of a full room", certificate.read_text(), "ROOMCERT 1\nSINGLES 10000\nSERIES 0\nDONE\n")
-        cases.holds("the checker's yes to it", run(program, "check", str(calendar), str(certificate), R1), (0, "yes\n", ""))
+    calendar, certificate = (run(program, "keep", *words, R1, given=full + one_more)[1] for words in ([], ["--certificate"]))
+    cases.holds("the certificate of a full room", certificate, "ROOMCERT 1\nSINGLES 10000\nSERIES 0\nDONE\n")
+    cases.holds("the checker's yes to it", checked(program, calendar, certificate, R1), (0, "yes\n", ""))
 
 
 def without_end(cases, program):
@@ -103,12 +94,11 @@ def without_end(cases, program):
 
 
 def main():
-    program, cases = str(Path(sys.argv[1]).resolve()), Cases()
+    program, cases = of_arguments(), Cases()
     for part in (prefixes, full_room, without_end):
         part(cases, program)
-    print(f"{cases.count} cases, {cases.failed} failed")
-    return 1 if cases.failed else 0
+    cases.end()
 
 
 if __name__ == "__main__":
-    sys.exit(main())
+    main()

@@ -5,8 +5,7 @@ invitations, faults and who is told of them, and runs that are stopped.
 
 tests/mails/ has the eight mails, each beside the object that it brings. What is expected was written by hand, from RFC 5546, RFC 6047, RFC 3834 and
 docs/GUIDE.md, and never from what came out. FOLDER is where the folders of the tests are made; if none is given, it is memory, since each
-mail is synced several times. A test that needs strace says so and is left out if there is none. It prints each case that fails, and ends with 1 if
-one did.
+mail is synced several times. It needs strace.
 """
 
 import base64
@@ -22,13 +21,12 @@ import tempfile
 import time
 from pathlib import Path
 
-from guide import Cases
+from lib.cases import Cases
+from lib.program import MEMORY, ROOT, of_arguments
 
-ROOT = Path(__file__).resolve().parent.parent
-PROGRAM = str(Path(sys.argv[1] if len(sys.argv) > 1 else ROOT / "bin" / "roombox").resolve())
+PROGRAM = of_arguments()
 MAIL = str(ROOT / "examples" / "mail" / "roombox_mail.py")
 MAILS = ROOT / "tests" / "mails"
-MEMORY = "/dev/shm"
 ROOM = "room1@example.com"
 BOX = "rooms@example.com"
 ANN = "ann@example.com"
@@ -488,8 +486,7 @@ def stopped_at(cases, parent, call, how, number):
 def stopped_at_each_step(cases, parent):
     """A run of `take`, and one of `send`, is killed at each of its calls that change a folder, or the call fails; the next run does the rest."""
     if not shutil.which("strace"):
-        print("left out: runs that are stopped at each step (no strace)")
-        return
+        return cases.lacks("runs that are stopped at each step", "strace")
     stops = 0
     for call in STEPS:
         post = Post(parent)
@@ -608,9 +605,8 @@ def main():
     with tempfile.TemporaryDirectory(dir=where) as parent:
         for part in parts:
             part(cases, parent)
-    print(f"{cases.count} cases, {cases.failed} failed")
-    return 1 if cases.failed else 0
+    cases.end()
 
 
 if __name__ == "__main__":
-    sys.exit(main())
+    main()

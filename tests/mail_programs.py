@@ -6,24 +6,24 @@ Each program gets an object as a file to attach and makes a mail of it in its ow
 the mail with the answer, shows what is in it for people, and saves its calendar part. An organiser of the box invites by mail too, and the answer that a
 person writes with such a program comes back. What is expected was written by hand, from RFC 5546 and docs/GUIDE.md.
 
-mutt and s-nail, which speak to a terminal, get one. They are Debian's packages mutt, s-nail and mblaze: if one isn't there, that is said and it isn't tried. It prints each case that
-fails, and ends with 1 if one did.
+mutt and s-nail, which speak to a terminal, get one. They are Debian's packages mutt, s-nail and mblaze.
 """
 
-import itertools
 import os
 import pty
 import re
 import select
 import shutil
 import subprocess
-import sys
 import tempfile
 import time
 from pathlib import Path
 
-from guide import Cases
-from mail import ANN, MEMORY, PROGRAM, ROOM, Post, calendar_of, reply
+from lib.cases import Cases
+from lib.program import MEMORY
+from lib.streams import folded
+from lib.zones import vtimezone
+from mail import ANN, PROGRAM, ROOM, Post, calendar_of, reply
 
 WORDS = {**os.environ, "LC_ALL": "C.UTF-8", "TERM": "xterm", "LINES": "40", "COLUMNS": "100"}
 FOOTER = "This was written by the program that keeps the rooms. It reads invitations and nothing else."
@@ -36,22 +36,10 @@ LONG = "Büro für Räume, zweiter Stock, hinten links, neben der Treppe, die zu
 def object_of(method, uid, start, *lines, end="\r\n", organiser=ANN, room=ROOM, zone=()):
     event = ["BEGIN:VEVENT", f"UID:{uid}", "DTSTAMP:20250101T000000Z", f"ORGANIZER;CN=Ann Example:mailto:{organiser}", f'ATTENDEE;CUTYPE=ROOM;RSVP=TRUE;CN="{LONG}":mailto:{room}', start, *lines, "END:VEVENT"]
     named = ["BEGIN:VCALENDAR", "PRODID:-//a person//EN", "VERSION:2.0", f"METHOD:{method}", *zone, *event, "END:VCALENDAR"]
-    return "".join(line + end for line in itertools.chain(*map(folded, named)))
+    return folded(named).decode().replace("\r\n", end)
 
 
-def folded(line):
-    """In pieces of at most 75 octets, none of which parts a letter; each but the first begins with a space."""
-    pieces, piece = [], ""
-    for letter in line:
-        if len((piece + letter).encode()) > 75:
-            pieces.append(piece)
-            piece = " "
-        piece += letter
-    return [*pieces, piece]
-
-
-BERLIN = ["BEGIN:VTIMEZONE", "TZID:Europe/Berlin", "BEGIN:STANDARD", "DTSTART:19961027T030000", "TZOFFSETFROM:+0200", "TZOFFSETTO:+0100", "RRULE:FREQ=YEARLY;BYMONTH=10;BYDAY=-1SU", "END:STANDARD",
-          "BEGIN:DAYLIGHT", "DTSTART:19810329T020000", "TZOFFSETFROM:+0100", "TZOFFSETTO:+0200", "RRULE:FREQ=YEARLY;BYMONTH=3;BYDAY=-1SU", "END:DAYLIGHT", "END:VTIMEZONE"]
+BERLIN = vtimezone("Europe/Berlin")
 
 
 # ---- terminals
@@ -303,14 +291,13 @@ def main():
     cases = Cases()
     programs = [name for name in PROGRAMS if shutil.which(TOOL[name])]
     for name in PROGRAMS.keys() - set(programs):
-        print(f"{name}: not tried")
+        cases.lacks(f"mails by {name}", TOOL[name])
     where = MEMORY if os.access(MEMORY, os.W_OK) else None
     with tempfile.TemporaryDirectory(dir=where) as parent:
         for part in (each_with_each, told, organisers):
             part(cases, parent, programs)
-    print(f"{cases.count} cases, {cases.failed} failed")
-    return 1 if cases.failed else 0
+    cases.end()
 
 
 if __name__ == "__main__":
-    sys.exit(main())
+    main()

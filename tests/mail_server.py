@@ -3,8 +3,7 @@
     python3 tests/mail_server.py bin/roombox
 
 Postfix runs from a folder of its own and listens to nothing: mails come by its sendmail and go into maildirs. The room is an alias of a user with an extension, as the README has it, whose file .forward+office
-names the maildir of the box; the user here is nobody. It wants root and Debian's package postfix: if one is missing, that is said and nothing is tried. It prints each case that fails, and ends with
-1 if one did.
+names the maildir of the box; the user here is nobody. It wants root and Debian's package postfix.
 """
 
 import email
@@ -16,7 +15,7 @@ import tempfile
 import time
 from pathlib import Path
 
-from guide import Cases
+from lib.cases import Cases
 from mail import ANN, BOX, MAIL, PROGRAM, ROOM, calendar_of, mail, refused, reply, request, text_of
 
 SENDMAIL = "/usr/sbin/sendmail"
@@ -135,11 +134,11 @@ def many(cases, server, count=100):
 
 
 def main():
+    cases = Cases()
     missing = ([] if POSTFIX.exists() else ["postfix"]) + ([] if os.geteuid() == 0 else ["root"])
     if missing:
-        print(f"not tried: {', '.join(missing)} missing")
-        return 0
-    cases = Cases()
+        cases.lacks("mails through a server", " and ".join(missing))
+        cases.end()
     with tempfile.TemporaryDirectory() as folder:
         server = Postfix(folder)
         try:
@@ -147,9 +146,8 @@ def main():
             many(cases, server)
         finally:
             server.asked("stop")
-    print(f"{cases.count} cases, {cases.failed} failed")
-    return 1 if cases.failed else 0
+    cases.end()
 
 
 if __name__ == "__main__":
-    sys.exit(main())
+    main()

@@ -3,9 +3,9 @@ programs that feed them and the engine were killed.
 
     /usr/bin/python3 tests/many_boxes.py bin/roombox [--messages 50000] [--rooms 50] [--boxes 4] [--kills 60] [--figures] [--folder FOLDER]
 
-It needs Debian's redis-server and python3-redis, and says so and ends with 0 if they aren't there. It starts an engine of its own on loopback, in a folder
+It needs Debian's redis-server and python3-redis. It starts an engine of its own on loopback, in a folder
 of its own. What is expected comes from one box of all rooms where there are 64 at most, and from `roombox keep` of the whole log where there are
-more. It prints each case that fails, and ends with 1 if one did. FOLDER is where the folders are made; if none is given, it is memory.
+more. FOLDER is where the folders are made; if none is given, it is memory.
 """
 
 import argparse
@@ -23,9 +23,9 @@ import tempfile
 import time
 from pathlib import Path
 
-from guide import Cases
+from lib.cases import Cases
+from lib.program import ROOT, of_arguments
 
-ROOT = Path(__file__).resolve().parent.parent
 EXAMPLE = ROOT / "examples" / "many-boxes"
 MANY_BOXES = str(EXAMPLE / "many_boxes.py")
 sys.path.insert(0, str(EXAMPLE))
@@ -433,7 +433,7 @@ def figures(cases, parent, program, options):
 
 def main():
     parser = argparse.ArgumentParser(description=__doc__, formatter_class=argparse.RawDescriptionHelpFormatter)
-    parser.add_argument("program", nargs="?", default=str(ROOT / "bin" / "roombox"))
+    parser.add_argument("program", nargs="?")
     parser.add_argument("--messages", type=int, default=50_000)
     parser.add_argument("--rooms", type=int, default=50)
     parser.add_argument("--boxes", type=int, default=4)
@@ -441,20 +441,17 @@ def main():
     parser.add_argument("--figures", action="store_true", help="only the figures")
     parser.add_argument("--folder", default="/dev/shm")
     options = parser.parse_args()
-    lacks = missing()
+    cases, program, lacks = Cases(), of_arguments(), missing()
     if lacks:
-        print(f"left out: {lacks} isn't there")
-        return
-    program = str(Path(options.program).resolve())
-    cases = Cases()
+        cases.lacks("boxes over a log", lacks)
+        cases.end()
     with tempfile.TemporaryDirectory(dir=options.folder) as parent:
         if options.figures:
             figures(cases, parent, program, options)
         else:
             as_one_box(cases, parent, program, min(2_000, options.messages))
             after_kills(cases, parent, program, options)
-    print(f"{cases.count - cases.failed} of {cases.count} cases hold")
-    sys.exit(1 if cases.failed else 0)
+    cases.end()
 
 
 if __name__ == "__main__":

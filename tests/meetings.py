@@ -5,24 +5,12 @@
 Each case has its input, a status and what standard output has to be, written by hand from docs/REFERENCE.md and RFC 6638 (3.2.9, 4.2, 7.3).
 """
 
-import subprocess
-import sys
-from pathlib import Path
+from lib.cases import Cases
+from lib.program import ROOT, of_arguments, run
+from lib.streams import ANN, OWN_HEAD, R1, calendar
 
-ROOT = Path(__file__).resolve().parent.parent
-ANN = "mailto:ann@example.com"
 BOB = "mailto:bob@example.com"
-R1 = "mailto:r1@example.com"
 PREAMBLE = f"now 20250102T000000Z\nroom {R1}\norganiser {ANN}\norganiser {BOB}\n\n"
-
-
-def lines(*texts):
-    return "".join(text + "\r\n" for text in texts)
-
-
-def calendar(*inner, method=None, product="-//test//EN"):
-    own = [f"METHOD:{method}"] if method else []
-    return lines("BEGIN:VCALENDAR", "VERSION:2.0", f"PRODID:{product}", *own, *inner, "END:VCALENDAR")
 
 
 def store(uid, *attendees, organiser=ANN, day="20250401", more=()):
@@ -39,10 +27,10 @@ def shown(uid, *attendees, organiser=ANN, day="20250401", sequence=0, more=()):
     """What is shown of such a meeting; each attendee is an address, its PARTSTAT, and whether it was sent a message."""
     seen = [f"ATTENDEE;PARTSTAT={word}{';SCHEDULE-STATUS=1.1' if sent else ''}:{address}" for address, word, sent in attendees]
     return calendar("BEGIN:VEVENT", f"UID:{uid}", f"SEQUENCE:{sequence}", "DTSTAMP:20250102T000000Z", f"DTSTART:{day}T090000Z", "DURATION:PT3600S", *more, "SUMMARY:Plan",
-                    f"ORGANIZER:{organiser}", *seen, "END:VEVENT", product="-//iTIP room box//EN")
+                    f"ORGANIZER:{organiser}", *seen, "END:VEVENT", head=OWN_HEAD)
 
 
-def cases():
+def rows():
     """Name, words behind `meetings`, input, status, standard output."""
     asked = (R1, "NEEDS-ACTION", True)
     conversation = (ROOT / "examples/organiser-conversation.ics-stream").read_bytes().decode()
@@ -76,16 +64,15 @@ def cases():
 
 
 def main():
-    program, faults = sys.argv[1], 0
-    for name, words, given, status, wanted in cases():
-        ended = subprocess.run([program, "meetings", *words], input=given.encode(), capture_output=True, timeout=300)
-        found = ended.returncode, ended.stdout.decode()
-        if found != (status, wanted) or (status == 3 and not ended.stderr.startswith(b"roombox: refused 90\nroombox: ")) or (status == 0 and ended.stderr):
-            faults += 1
-            print(f"{name}: {found}, {ended.stderr!r}, wanted {status}, {wanted!r}")
-    print(f"{len(cases())} cases, {faults} failed")
-    return 1 if faults else 0
+    cases, program = Cases(), of_arguments()
+    for name, words, given, status, wanted in rows():
+        found = run(program, "meetings", *words, given=given)
+        cases.holds(name, found[:2], (status, wanted))
+        if status != 2:
+            said = found[2].startswith("roombox: refused 90\nroombox: ") if status == 3 else not found[2]
+            cases.holds(f"{name}: what is said", said, True)
+    cases.end()
 
 
 if __name__ == "__main__":
-    sys.exit(main())
+    main()

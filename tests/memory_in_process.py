@@ -6,26 +6,24 @@ The cases are lines of the tables of these programs: those that say `again` of a
 those that say `runs` of a box over folders in memory (command_examples, src/scene.rt). What has to come out stands in their `stdout`, with how many calls were
 made: one more where one found no memory. An allocation that is refused elsewhere in the program, as where it reads a table, ends the case with `out of memory`.
 
-The refusing is done by the shim of tests/refused_memory.py. It prints for each case how many allocations of its calls were refused, and of the rest, and ends
-with 1 where another answer came.
+The refusing is done by the shim of tests/refused_memory.py. It prints for each case how many allocations of its calls were refused, and of the rest.
 """
 
 import os
-import subprocess
 import sys
 import tempfile
 from pathlib import Path
 
-from refused_memory import shim_in
+from lib.cases import Cases
+from lib.program import ROOT, shim
+from refused_memory import SHIM, refusing, swept
 
-CRATES = Path(__file__).resolve().parent.parent / "crates"
+CRATES = ROOT / "crates"
 # A program's table, the word that its cases have, the other tables that it reads, and what is said of one call and of one more.
 TABLES = {
     "worked_examples": ("messages.txt", "| again |", ("residues.txt", "events.txt", "calendars.txt", "organisers.txt"), "0 again", "1 again"),
     "command_examples": ("folders.txt", "| runs |", ("commands.txt",), "1 runs", "2 runs"),
 }
-# So many runs that answer all of it without one more call come after the last allocation.
-QUIET = 100
 
 
 def cases_of(crate):
@@ -56,46 +54,38 @@ def folder_of(crate, line, folder):
         Path(folder, name).write_text("", encoding="ascii")
 
 
-def run(program, folder, shim, number):
-    environment = dict(os.environ, LD_PRELOAD=shim, REFUSED_ALLOCATION=str(number))
-    return subprocess.run([program], capture_output=True, cwd=folder, env=environment, timeout=60, check=False)
-
-
-def sweep(program, crate, line, shim):
-    """Refuses allocation 1, 2, .. of a case until none is left: how many calls were made again, and how many allocations were refused elsewhere."""
+def tries(cases, program, crate, line, library):
+    """Refuses allocation 1, 2, .. of a case until none is left, and says how many calls were made again, and how many allocations were refused elsewhere."""
     name = line.split(" | ")[0]
     whole, more = expected(crate, name)
-    again = elsewhere = quiet = 0
+    # where a file of the case is read, no memory is an io::Error, as is a file that isn't there
+    may_be = ("", whole, more, f"{name}: out of memory\n", f"{name}: unreadable case\n")
+    made = []
     with tempfile.TemporaryDirectory() as folder:
         folder_of(crate, line, folder)
-        for number in range(1, 100_000):
-            ended = run(program, folder, shim, number)
-            found = ended.stdout.decode()
-            # where a file of the case is read, no memory is an io::Error, as is a file that isn't there
-            if ended.returncode < 0 or found not in ("", whole, more, f"{name}: out of memory\n", f"{name}: unreadable case\n"):
-                sys.exit(f"{name}: allocation {number} refused: {ended}")
-            if found == whole:
-                quiet += 1
-                if quiet > QUIET:
-                    return name, again, elsewhere
-                continue
-            quiet = 0
-            again += found == more
-            elsewhere += found != more
-    sys.exit(f"{name}: no end")
+
+        def again(number):
+            status, out, said = refusing([program], b"", library, number, cwd=folder)
+            if status < 0 or out.decode() not in may_be:
+                return False, (status, out, said)
+            made.append(out.decode())
+            return made[-1] == whole, None
+
+        refused, wrong = swept(again)
+    calls = made.count(more)
+    cases.tells(name, wrong or [] if calls else ["no call was made again"])
+    print(f"{name}: {calls} allocations of its calls refused in turn, and {refused - calls} others", flush=True)
 
 
 def main():
+    cases = Cases()
     with tempfile.TemporaryDirectory() as folder:
-        shim = shim_in(folder)
+        library = shim(folder, SHIM)
         for program, crate in zip(sys.argv[1:], TABLES):
+            cases.holds(f"{crate} has such cases", bool(cases_of(crate)), True)
             for line in cases_of(crate):
-                name, again, elsewhere = sweep(os.path.abspath(program), crate, line, shim)
-                print(f"{name}: {again} allocations of its calls refused in turn, and {elsewhere} others")
-                if not again:
-                    sys.exit(f"{name}: no call was made again")
-            if not cases_of(crate):
-                sys.exit(f"{crate}: no such case")
+                tries(cases, os.path.abspath(program), crate, line, library)
+    cases.end()
 
 
 if __name__ == "__main__":

@@ -1,34 +1,27 @@
 """Kills a box of folders again and again, moves its folders by tar to other places, and lets other users go on there, with another locale and time zone.
 
-    python3 tests/moved_box.py bin/roombox [MOVES] [SEED] [KILLS]
+    python3 tests/moved_box.py bin/roombox [--moves 12] [--kills 6] [--seed 1]
 
 The messages are those of tests/recorded_day.py, one or two a file, and some spoiled ones; they come a few at a time, as docs/OPERATING.md says: a file is written under another
 name, and renamed under the lock of the inbox. The outbox at the end has to be, octet by octet, that of a box that got all of the messages at once, was never killed and never moved; and at
-each stop what is in the outbox are whole answers of that one, without a gap. So has one that was moved without its outbox. Run as root it tries other users,
-else it says that it doesn't. It prints each case that fails, and ends with 1 if one did.
+each stop what is in the outbox are whole answers of that one, without a gap. So has one that was moved without its outbox. It needs root, for
+other users.
 """
 
+import argparse
 import fcntl
 import os
 import random
 import shutil
 import subprocess
-import sys
 import tempfile
 import time
 from pathlib import Path
 
-from guide import Cases
+import recorded_day
+from lib.cases import Cases
+from lib.program import MEMORY, of_arguments
 
-# its own words are read by what is imported next
-PROGRAM, *WORDS = sys.argv[1:] or ["bin/roombox"]
-PROGRAM = str(Path(PROGRAM).resolve())
-sys.argv[1:] = [PROGRAM]
-import recorded_day  # noqa: E402
-
-MOVES = int(WORDS[0]) if WORDS else 12
-SEED = int(WORDS[1]) if len(WORDS) > 1 else 1
-KILLS = int(WORDS[2]) if len(WORDS) > 2 else 6
 TEMPORARY = ".roombox-temporary"
 NAMES = ["office", "a room with spaces", "Büro №2", "-", "x" * 200, "deep/er/and/deeper"]
 LOCALES = ["C", "tr_TR.UTF-8", "de_DE.ISO-8859-1", "ja_JP.eucJP", "POSIX"]
@@ -37,10 +30,10 @@ USERS = [{}, {"user": 65_534, "group": 65_534, "extra_groups": []}, {"user": 12_
 CONFIG = recorded_day.PREAMBLE.split("\n", 1)[1].rstrip("\n") + "\n"
 
 
-def messages(chance):
+def messages(chance, seed):
     """The texts of the files, in their order: a day's, repeats, a few that are refused, and one that is empty."""
-    day = recorded_day.Day(random.Random(f"day {SEED}"))
-    people, _ = recorded_day.conversation(random.Random(f"people {SEED}"))
+    day = recorded_day.Day(random.Random(f"day {seed}"))
+    people, _ = recorded_day.conversation(random.Random(f"people {seed}"))
     texts = recorded_day.STORES + recorded_day.in_order(chance, [message.text() for message in day.messages] + people)
     texts += [recorded_day.SPOILED, "", "BEGIN:VCALENDAR\r\nVERSION:2.0\r\n"]
     rest = texts[len(recorded_day.STORES):]
@@ -118,10 +111,10 @@ class Box:
         return other
 
 
-def places(parents, chance):
+def places(parents, chance, moves):
     """Where the box is moved, and as whom it goes on there; other disks, names, locales, time zones and users."""
     users = USERS if os.geteuid() == 0 else USERS[:1]
-    for number in range(MOVES):
+    for number in range(moves):
         folder = Path(chance.choice(parents), f"place{number}", NAMES[number % len(NAMES)])
         environment = {"PATH": os.environ["PATH"], "LC_ALL": LOCALES[number % len(LOCALES)], "LANG": "xx", "TZ": CLOCKS[number % len(CLOCKS)]}
         yield folder, users[number % len(users)], environment
@@ -134,14 +127,19 @@ def pieces(cases, what, found, wanted):
 
 
 def main():
-    cases, chance = Cases(), random.Random(f"moves {SEED}")
-    texts = messages(chance)
-    with tempfile.TemporaryDirectory() as disk, tempfile.TemporaryDirectory(dir="/dev/shm" if os.access("/dev/shm", os.W_OK) else None) as memory:
+    parser = argparse.ArgumentParser()
+    parser.add_argument("program", nargs="?")
+    for name, count in (("moves", 12), ("kills", 6), ("seed", 1)):
+        parser.add_argument(f"--{name}", type=int, default=count)
+    words = parser.parse_args()
+    cases, chance = Cases(), random.Random(f"moves {words.seed}")
+    texts = messages(chance, words.seed)
+    with tempfile.TemporaryDirectory() as disk, tempfile.TemporaryDirectory(dir=MEMORY if os.access(MEMORY, os.W_OK) else None) as memory:
         for parent in (disk, memory):
             os.chmod(parent, 0o755)
-        program = str(shutil.copy(PROGRAM, Path(disk, "roombox")))
+        program = str(shutil.copy(of_arguments(), Path(disk, "roombox")))
         if os.geteuid():
-            print("left out: other users (not root)")
+            cases.lacks("other users", "root")
         whole = Box(Path(memory, "whole"), program).made()
         for number, text in enumerate(texts, 1):
             whole.put(number, text)
@@ -151,15 +149,15 @@ def main():
         wanted = whole.answers()
         cases.holds("it has an answer to each file", [name.removesuffix(".out") for name in wanted], [name_of(number).removesuffix(".ics") for number in range(1, len(texts) + 1)])
         box, given, killed, moves = Box(Path(disk, "first", "office"), program).made(), 0, 0, 0
-        at_each = -(-len(texts) // (MOVES + 1))
-        for place in [None, *places([disk, memory], chance)]:
+        at_each = -(-len(texts) // (words.moves + 1))
+        for place in [None, *places([disk, memory], chance, words.moves)]:
             if place:
                 box = box.moved(*place)
                 moves += 1
             for number in range(given + 1, min(given + at_each, len(texts)) + 1):
                 box.put(number, texts[number - 1])
             given = min(given + at_each, len(texts))
-            for _ in range(KILLS):
+            for _ in range(words.kills):
                 # a run reads all files, and answers those that are new
                 killed += box.killed(lasts * chance.uniform(0, 1.1) * given / len(texts))
                 pieces(cases, f"after {moves} moves: what a run that was killed left", box.answers(), wanted)
@@ -173,10 +171,9 @@ def main():
         cases.holds("a run with nothing to do", (box.run(), box.answers() == wanted), ((0, "", ""), True))
         box = box.moved(Path(disk, "anew"), {}, {"PATH": os.environ["PATH"], "TZ": "Asia/Tokyo"}, without=["outbox"])
         cases.holds("moved without its outbox", (box.answers(), box.run(), box.answers() == wanted), ({}, (0, "", ""), True))
-    print(f"{len(texts)} files, {moves} moves, {killed} of {KILLS * (MOVES + 1)} runs killed before their end")
-    print(f"{cases.count} cases, {cases.failed} failed")
-    return 1 if cases.failed else 0
+    print(f"{len(texts)} files, {moves} moves, {killed} of {words.kills * (words.moves + 1)} runs killed before their end")
+    cases.end()
 
 
 if __name__ == "__main__":
-    sys.exit(main())
+    main()

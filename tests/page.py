@@ -1,40 +1,26 @@
 """Reads the pages that `roombox agenda --html` prints of calendars, and compares their days with those that Python computes.
 
-    python3 tests/page.py bin/roombox [CALENDARS] [SEED]
+    python3 tests/page.py bin/roombox [--calendars 60] [--seed 1]
 
-When a day begins, and what clocks show, is asked of zoneinfo; the instances of random calendars are those of tests/certificate_by_dateutil.py. The whole
+When a day begins, and what clocks show, is asked of zoneinfo; the instances of random calendars are those of lib/calendars.py. The whole
 page of one meeting stands here by hand, but for its style.
 """
 
 import random
 import re
-import subprocess
-import sys
-import tempfile
-from datetime import date, datetime, timedelta, timezone
+from datetime import datetime, timedelta
 from html.parser import HTMLParser
-from pathlib import Path
-from zoneinfo import ZoneInfo
 
-from agenda import EMPTY, ONE, ZONES, free, instances, tried
-from certificate_by_dateutil import DAY, ROOM, Calendar, calendar_text, moment, stamp
+from agenda import EMPTY, ONE, START, ZONES, free, run, tries
+from lib.calendars import Calendar, instances
+from lib.random_calendars import calendar_text
+from lib.streams import R1
+from lib.zones import DAY, EPOCH, WORDS, clock, means, moment, stamp
 
-START = moment("20250101T000000Z")
-EPOCH = datetime(1970, 1, 1, tzinfo=timezone.utc)
 NAME = "r1@example.com"
-BERLIN = "+0100 +0200 10 -1SU 0300 3 -1SU 0200"
 # Its clocks change at midnight: one midnight a year doesn't exist, and one occurs twice.
-HAVANA = "-0500 -0400 11 1SU 0100 3 2SU 0000"
-ALL_ZONES = [*ZONES, (HAVANA, "America/Havana")]
+BERLIN, HAVANA = "Europe/Berlin", "America/Havana"
 WEEKDAYS = ["Monday", "Tuesday", "Wednesday", "Thursday", "Friday", "Saturday", "Sunday"]
-
-
-def run(program, text, *words):
-    with tempfile.TemporaryDirectory() as folder:
-        path = Path(folder, "kept.ics")
-        path.write_text(text, newline="")
-        ended = subprocess.run([program, "agenda", path, *words], capture_output=True, timeout=300)
-    return ended.returncode, ended.stdout.decode()
 
 
 def meeting(start, end, organiser="mailto:ann@example.com"):
@@ -117,12 +103,11 @@ def instant_of(text):
 
 def midnight(day, name):
     """The instant with which a day begins: of two midnights the first, and one that doesn't exist is read with the offset before."""
-    local = datetime(day.year, day.month, day.day, tzinfo=ZoneInfo(name), fold=0)
-    return int((local.astimezone(timezone.utc) - EPOCH).total_seconds())
+    return means(datetime(day.year, day.month, day.day), name)
 
 
-def clock(instant, name):
-    return (EPOCH + timedelta(seconds=instant)).astimezone(ZoneInfo(name)).strftime("%H:%M")
+def shown(instant, name):
+    return clock(instant, name).strftime("%H:%M")
 
 
 def wanted_days(found, start, end, name):
@@ -137,7 +122,7 @@ def wanted_days(found, start, end, name):
             lines = []
             for kind, a, b, who in sorted(blocks, key=lambda it: it[1]):
                 a, b = max(a, first), min(b, last)
-                lines.append((kind, f"{clock(a, name)}–{'24:00' if b == last else clock(b, name)} {kind} {who}".strip(), a, b))
+                lines.append((kind, f"{shown(a, name)}–{'24:00' if b == last else shown(b, name)} {kind} {who}".strip(), a, b))
             days.append((f"{WEEKDAYS[day.weekday()]} {day}", lines))
         day += timedelta(days=1)
     return days
@@ -197,8 +182,8 @@ def whole_page(style):
 """
 
 
-def cases():
-    """A name, a calendar, the span, the words of a zone, and by hand the headings with the words of their blocks."""
+def rows():
+    """A name, a calendar, the span, a zone, and by hand the headings with the words of their blocks."""
     one = "20250415T000000Z", "20250416T000000Z"
     return [
         ("a day of one meeting", ONE, *one, None, [("Tuesday 2025-04-15", ["00:00–07:00 free", "07:00–08:00 taken ann@example.com", "08:00–24:00 free"])]),
@@ -252,54 +237,45 @@ def usages():
     ]
 
 
-def by_hand(program):
-    faults = 0
-    for name, text, start, end, zone, wanted in cases():
-        status, page = run(program, text, ROOM, "--from", start, "--until", end, "--html", *([f"--zone={zone}"] if zone else []))
+def zone_words(zone):
+    return [f"--zone={WORDS[zone]}"] if zone else []
+
+
+def by_hand(cases, program):
+    one = ["--from", "20250415T000000Z", "--until", "20250416T000000Z", "--html"]
+    for name, text, start, end, zone, wanted in rows():
+        status, page, _ = run(program, text, R1, "--from", start, "--until", end, "--html", *zone_words(zone))
         read = Page(page)
         said = [(heading, [words for _, words, _, _ in blocks]) for heading, blocks in read.said()]
-        if status or read.faults or said != wanted:
-            faults += 1
-            print(f"{name}: {status}, {read.faults}, {said}, wanted {wanted}")
+        cases.holds(name, (status, read.faults, said), (0, [], wanted))
     for name, text, words, wanted in usages():
-        status, page = run(program, text, ROOM, *words)
-        if status != wanted or bool(page) != (status == 0):
-            faults += 1
-            print(f"{name}: {status}, {page[:100]!r}, wanted {wanted}")
-    status, page = run(program, ONE, ROOM, "--from", "20250415T000000Z", "--until", "20250416T000000Z", "--html")
+        status, page, _ = run(program, text, R1, *words)
+        cases.holds(name, (status, bool(page)), (wanted, wanted == 0))
+    status, page, _ = run(program, ONE, R1, *one)
     style = page[page.find("<style>\n") + len("<style>\n"):page.find("</style>")]
-    if status or page != whole_page(style) or "<" in style or "@import" in style:
-        faults += 1
-        print(f"the whole page: {status}, {page!r}")
+    cases.holds("the whole page", (status, page, "<" in style, "@import" in style), (0, whole_page(style), False, False))
     odd = "mailto:r&d<1>\"2\"@example.com"
-    status, page = run(program, EMPTY, odd, "--from", "20250415T000000Z", "--until", "20250416T000000Z", "--html")
-    if status or Page(page).texts.get("h1") != odd.removeprefix("mailto:") or "<h1>r&amp;d&lt;1&gt;&quot;2&quot;@example.com</h1>" not in page:
-        faults += 1
-        print(f"a room's address with all that is escaped: {status}, {page!r}")
-    return len(cases()) + len(usages()) + 2, faults
+    status, page, _ = run(program, EMPTY, odd, *one)
+    escaped = "<h1>r&amp;d&lt;1&gt;&quot;2&quot;@example.com</h1>" in page
+    cases.holds("a room's address with all that is escaped", (status, Page(page).texts.get("h1"), escaped), (0, odd.removeprefix("mailto:"), True))
 
 
 # ---- random calendars
 
 
-def random_cases(program, count, seed):
-    chance, faults = random.Random(seed), 0
-    for _ in range(count):
+def random_cases(cases, program, count, seed):
+    for number in range(count):
+        chance = random.Random(f"page {seed} {number}")
         text = calendar_text(chance)
-        calendar = Calendar(text, ROOM)
-        for _ in range(3):
+        read = Calendar(text, R1)
+        for turn in range(3):
             start = START + chance.randint(-400, 1500) * DAY + chance.randint(0, 95) * 900
             end = start + chance.choice([1, 3600, DAY, 7 * DAY, 30 * DAY, 62 * DAY])
-            zone, name = chance.choice([(None, None), *ALL_ZONES])
-            words = [ROOM, "--from", stamp(start), "--until", stamp(end), "--html", *([f"--zone={zone}"] if zone else [])]
-            found = [(a, b, "ann@example.com") for a, b in instances(calendar, start - 3 * DAY, end + 3 * DAY)]
-            status, page = run(program, text, *words)
-            wrong = faults_of(page, NAME, found, start, end, name)
-            if status or wrong:
-                faults += 1
-                print(f"agenda {words}: {status}, {wrong}\n{text}")
-    return 3 * count, faults
+            zone = chance.choice([None, *ZONES, HAVANA])
+            found = [(a, b, "ann@example.com") for a, b in instances(read, start - 3 * DAY, end + 3 * DAY)]
+            status, page, _ = run(program, text, R1, "--from", stamp(start), "--until", stamp(end), "--html", *zone_words(zone))
+            cases.holds(f"page {seed} {number}, {turn}", (status, faults_of(page, NAME, found, start, end, zone)), (0, []))
 
 
 if __name__ == "__main__":
-    sys.exit(tried(by_hand, random_cases))
+    tries(by_hand, random_cases)

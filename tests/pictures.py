@@ -17,8 +17,10 @@ import zlib
 from pathlib import Path
 
 from agenda import EMPTY, ONE
-from page import BERLIN
-from certificate_by_dateutil import DAY, ROOM, moment, stamp
+from lib.cases import Cases
+from lib.program import ROOT, of_arguments
+from lib.streams import R1 as ROOM
+from lib.zones import DAY, WORDS, moment, stamp
 
 SIZES = {"tablet": (1280, 800), "phone": (390, 844), "large": (1920, 1080), "small": (320, 640)}
 KEPT = [("tablet", "light"), ("phone", "light"), ("large", "dark")]
@@ -56,7 +58,7 @@ def page_of(program, folder, days):
     kept = Path(folder, "kept.ics")
     kept.write_text(calendar(), newline="")
     start = MONDAY - 3600
-    words = [ROOM, "--from", stamp(start), "--until", stamp(start + days * DAY), "--html", f"--zone={BERLIN}"]
+    words = [ROOM, "--from", stamp(start), "--until", stamp(start + days * DAY), "--html", f"--zone={WORDS['Europe/Berlin']}"]
     page = Path(folder, f"page-{days}.html")
     page.write_bytes(subprocess.run([program, "agenda", kept, *words], capture_output=True, timeout=60, check=True).stdout)
     return page
@@ -127,35 +129,23 @@ def take_picture(page, name, scheme, target):
 
 
 def main():
+    cases, program, target = Cases(), of_arguments(), Path((sys.argv[2:] or [ROOT / "docs" / "pictures"])[0])
     if not shutil.which("chromium"):
-        print("chromium isn't installed: nothing tried")
-        return 0
-    program, target = Path(sys.argv[1]).resolve(), Path((sys.argv[2:] or ["docs/pictures"])[0])
-    tried, faults = 0, 0
+        cases.lacks("pages in a browser", "chromium")
+        cases.end()
     with tempfile.TemporaryDirectory() as folder:
         for days in (7, 62):
             page = page_of(program, folder, days)
             for name, size in SIZES.items():
-                shades = set()
-                for scheme in ("light", "dark"):
-                    tried += 1
-                    found = measure(page, size, scheme)
-                    if not found or found[0] > 0 or found[1] != size[0]:
-                        faults += 1
-                        print(f"{days} days, {name}, {scheme}: {found}")
-                    shades.add(found and found[2])
-                if len(shades) != 2:
-                    faults += 1
-                    print(f"{days} days, {name}: light and dark look the same: {shades}")
+                found = {scheme: measure(page, size, scheme) for scheme in ("light", "dark")}
+                for scheme, measured in found.items():
+                    cases.holds(f"{days} days, {name}, {scheme}: nothing is wider than its place", bool(measured) and measured[0] <= 0 and measured[1] == size[0], True)
+                cases.holds(f"{days} days, {name}: light and dark differ", len({it and it[2] for it in found.values()}), 2)
         for name, scheme in KEPT:
-            tried += 1
             octets = take_picture(page_of(program, folder, 7), name, scheme, Path(target, f"page-{name}-{scheme}.png"))
-            if octets > MOST_OCTETS:
-                faults += 1
-                print(f"page-{name}-{scheme}.png: {octets} octets")
-    print(f"{tried} tried, {faults} failed")
-    return 1 if faults else 0
+            cases.holds(f"page-{name}-{scheme}.png has few octets", octets <= MOST_OCTETS, True)
+    cases.end()
 
 
 if __name__ == "__main__":
-    sys.exit(main())
+    main()

@@ -1,52 +1,45 @@
 """Replays a day of messages in other orders: what each room knows of each meeting is the same afterwards, and nothing that it confirmed clashes.
 
-    python3 tests/recorded_day.py bin/roombox [ORDERS] [SEED]
+    python3 tests/recorded_day.py bin/roombox [--orders 10] [--seed 1]
 
 A day is recorded: four organisers ask for four rooms in zones, change and cancel meetings and single instances, add instances, take rooms away and ask for others; a fifth
 one, whom the box hosts, stores meetings, and people reply to it and ask it for a refresh. The messages come in random orders, some of them more than once. Then:
 
 - each message is sent once more, in the order of the day: it is answered by the rooms whose newest revision it has, of the meeting or of an instance, and by no other. Which
-  these are is computed here, from the messages alone, by the rules of docs/GUIDE.md; so they are the same in each order;
+  these are lib/books.py says from the messages alone; so they are the same in each order;
 - what the hosted organiser sees is the same in each order;
 - the checker says yes to each kept calendar;
-- the instances of all that was accepted, reckoned by dateutil and zoneinfo from the messages, share no instant, and they are those of the kept calendar and of its agenda.
+- the instances of all that was accepted, reckoned by that model from the messages, share no instant, and they are those of the kept calendar and of its agenda.
 """
 
+import argparse
 import random
 import re
-import subprocess
-import sys
-import tempfile
 from collections import Counter
 from dataclasses import dataclass, field
 from datetime import datetime, timedelta, timezone
-from pathlib import Path
 from zoneinfo import ZoneInfo
 
 from dateutil.rrule import rrulestr
 
-from agenda import instances
-from certificate_by_dateutil import Calendar, moment
-from guide import Cases
+from lib import books
+from lib.calendars import Calendar, instances
+from lib.cases import Cases
+from lib.program import checked, kept, of_arguments, run, with_calendar
+from lib.streams import calendar
+from lib.zones import WORDS, moment, vtimezone
 
-ROOT = Path(__file__).resolve().parent.parent
-PROGRAM = str(Path(sys.argv[1] if len(sys.argv) > 1 else ROOT / "bin" / "roombox").resolve())
-ORDERS = int(sys.argv[2]) if len(sys.argv) > 2 else 10
-SEED = int(sys.argv[3]) if len(sys.argv) > 3 else 1
 MESSAGES = 200
+# where rules without an end are no longer followed: past SPAN
+HORIZON = moment("20270103T000000Z")
 NOW = "20250303T190000Z"
-ZONES = {"UTC": ("+0000", ZoneInfo("UTC")), "Berlin": ("+0100 +0200 10 -1SU 0300 3 -1SU 0200", ZoneInfo("Europe/Berlin")), "York": ("-0500 -0400 11 1SU 0200 3 2SU 0200", ZoneInfo("America/New_York"))}
+NAMES = {"UTC": "UTC", "Berlin": "Europe/Berlin", "York": "America/New_York"}
+ZONES = {zone: ZoneInfo(name) for zone, name in NAMES.items()}
 ROOMS = {f"mailto:r{number}@example.com": zone for number, zone in enumerate(["UTC", "Berlin", "York", "UTC"], 1)}
 PEOPLE = ["ann", "bob", "cleo", "dan"]
 HOST = "mailto:eve@example.com"
-PREAMBLE = f"now {NOW}\n" + "".join(f"room {room}\nzone {room} {ZONES[zone][0]}\n" for room, zone in ROOMS.items()) + f"organiser {HOST}\n\n"
+PREAMBLE = f"now {NOW}\n" + "".join(f"room {room}\nzone {room} {WORDS[NAMES[zone]]}\n" for room, zone in ROOMS.items()) + f"organiser {HOST}\n\n"
 SPAN = "20250101T000000Z", "20270101T000000Z"
-VTIMEZONES = {
-    "Berlin": ["BEGIN:VTIMEZONE", "TZID:Berlin", "BEGIN:STANDARD", "DTSTART:19961027T030000", "TZOFFSETFROM:+0200", "TZOFFSETTO:+0100", "RRULE:FREQ=YEARLY;BYMONTH=10;BYDAY=-1SU", "END:STANDARD",
-               "BEGIN:DAYLIGHT", "DTSTART:19810329T020000", "TZOFFSETFROM:+0100", "TZOFFSETTO:+0200", "RRULE:FREQ=YEARLY;BYMONTH=3;BYDAY=-1SU", "END:DAYLIGHT", "END:VTIMEZONE"],
-    "York": ["BEGIN:VTIMEZONE", "TZID:York", "BEGIN:DAYLIGHT", "DTSTART:20070311T020000", "TZOFFSETFROM:-0500", "TZOFFSETTO:-0400", "RRULE:FREQ=YEARLY;BYMONTH=3;BYDAY=2SU", "END:DAYLIGHT",
-             "BEGIN:STANDARD", "DTSTART:20071104T020000", "TZOFFSETFROM:-0400", "TZOFFSETTO:-0500", "RRULE:FREQ=YEARLY;BYMONTH=11;BYDAY=1SU", "END:STANDARD", "END:VTIMEZONE"],
-}
 RULES = ["FREQ=DAILY;COUNT=5", "FREQ=WEEKLY;COUNT=8", "FREQ=WEEKLY", "FREQ=WEEKLY;INTERVAL=2;BYDAY=TU,TH;COUNT=9", "FREQ=MONTHLY;BYMONTHDAY={day};COUNT=4", "FREQ=WEEKLY;UNTIL=20261201T235959Z"]
 SPOILED = "BEGIN:VCALENDAR\r\nEND:VCALENDAR\r\n"
 
@@ -90,25 +83,6 @@ class Event:
         lines += [f"RRULE:{self.rule}"] if self.rule else []
         return lines + [self.property("EXDATE", local) for local in self.left_out] + ["END:VEVENT"]
 
-    def clocks(self, room):
-        return ZONES[ROOMS[room] if self.is_day else self.zone][1]
-
-    def starts(self, room, until):
-        """The instants at which it starts in this room."""
-        local = [self.start]
-        if self.rule:
-            local = days_of(self.rule, self.start).between(self.start, until, inc=True)
-        return [at.replace(tzinfo=self.clocks(room)).astimezone(timezone.utc) for at in local if at not in self.left_out]
-
-    def end(self, room, start):
-        if self.is_day:
-            return (start.astimezone(self.clocks(room)).replace(tzinfo=None) + timedelta(minutes=self.minutes)).replace(tzinfo=self.clocks(room)).astimezone(timezone.utc)
-        return start + timedelta(minutes=self.minutes)
-
-    def own_slot(self):
-        """The instance that a VEVENT of an ADD is."""
-        return self.start.replace(tzinfo=ZONES[self.zone][1]).astimezone(timezone.utc)
-
 
 @dataclass
 class Message:
@@ -116,13 +90,8 @@ class Message:
     events: list
 
     def text(self):
-        zones = [line for zone in ("Berlin", "York") if any(event.zone == zone and event.start and not event.is_day for event in self.events) for line in VTIMEZONES[zone]]
-        lines = ["BEGIN:VCALENDAR", "VERSION:2.0", "PRODID:-//a day//EN", f"METHOD:{self.method}", *zones, *(line for event in self.events for line in event.lines()), "END:VCALENDAR"]
-        return "".join(line + "\r\n" for line in lines)
-
-    def said(self):
-        """What it says of each VEVENT: its slot, and the VEVENT."""
-        return [(event.own_slot() if self.method == "ADD" else event.slot, event) for event in self.events]
+        zones = [line for zone in ("Berlin", "York") if any(event.zone == zone and event.start and not event.is_day for event in self.events) for line in vtimezone(NAMES[zone], zone)]
+        return calendar(*zones, *(line for event in self.events for line in event.lines()), method=self.method)
 
 
 # ---- a day
@@ -194,7 +163,7 @@ class Day:
     def slot_of(self, meeting):
         """An original start of a series, and the local time there."""
         local = days_of(meeting.whole.rule, meeting.whole.start)[self.chance.randint(0, 3)]
-        return local.replace(tzinfo=ZONES[meeting.whole.zone][1]).astimezone(timezone.utc), local
+        return local.replace(tzinfo=ZONES[meeting.whole.zone]).astimezone(timezone.utc), local
 
     def renewed(self, meeting, event, method="REQUEST", *others):
         meeting.whole, meeting.is_cancelled, meeting.moved = event, False, {}
@@ -263,14 +232,11 @@ class Day:
 
 
 def store(uid, start, *people):
-    lines = ["BEGIN:VCALENDAR", "VERSION:2.0", "PRODID:-//a day//EN", "BEGIN:VEVENT", f"UID:{uid}", "DTSTAMP:20250303T080000Z", f"ORGANIZER:{HOST}", *(f"ATTENDEE:{it}" for it in people), f"DTSTART:{start}",
-             "DURATION:PT1H", f"SUMMARY:{uid}", "END:VEVENT", "END:VCALENDAR"]
-    return "".join(line + "\r\n" for line in lines)
+    return calendar("BEGIN:VEVENT", f"UID:{uid}", "DTSTAMP:20250303T080000Z", f"ORGANIZER:{HOST}", *(f"ATTENDEE:{it}" for it in people), f"DTSTART:{start}", "DURATION:PT1H", f"SUMMARY:{uid}", "END:VEVENT")
 
 
-def to_host(method, uid, person, stamp, *lines):
-    named = ["BEGIN:VCALENDAR", "VERSION:2.0", "PRODID:-//a day//EN", f"METHOD:{method}", "BEGIN:VEVENT", f"UID:{uid}", "SEQUENCE:0", f"DTSTAMP:{stamp}", f"ORGANIZER:{HOST}", *lines, "END:VEVENT", "END:VCALENDAR"]
-    return "".join(line + "\r\n" for line in named).replace("PERSON", person)
+def to_host(method, uid, stamp, attendee):
+    return calendar("BEGIN:VEVENT", f"UID:{uid}", "SEQUENCE:0", f"DTSTAMP:{stamp}", f"ORGANIZER:{HOST}", attendee, "END:VEVENT", method=method)
 
 
 GUESTS = ["mailto:fay@example.com", "mailto:gus@example.com"]
@@ -284,72 +250,29 @@ def conversation(chance):
         for guest in GUESTS:
             for turn in range(chance.randint(0, 3)):
                 stamp, word = f"20250303T1{turn}{chance.randint(10, 59)}00Z", chance.choice(["ACCEPTED", "DECLINED", "TENTATIVE"])
-                texts.append(to_host("REPLY", f"e{number}", guest, stamp, f"ATTENDEE;PARTSTAT={word}:PERSON"))
+                texts.append(to_host("REPLY", f"e{number}", stamp, f"ATTENDEE;PARTSTAT={word}:{guest}"))
                 latest[f"e{number}", guest] = word
             if chance.random() < 0.3:
-                texts.append(to_host("REFRESH", f"e{number}", guest, "20250303T120000Z", "ATTENDEE:PERSON"))
+                texts.append(to_host("REFRESH", f"e{number}", "20250303T120000Z", f"ATTENDEE:{guest}"))
     return texts, latest
 
 
 # ---- what a room knows
 
 
-def newest(messages, room):
-    """Of each meeting, and each slot (None is the whole), the newest that is said of it, as far as it counts for this room: what it is, and the VEVENT."""
-    said = {}
-    for message in messages:
-        if message.method == "CANCEL":
-            mine = [(slot, event, "cancelled") for slot, event in message.said() if room in event.rooms or not event.rooms]
-        else:
-            is_for = any(room in event.rooms for event in message.events)
-            mine = [(slot, event, "asked" if room in event.rooms else "not for it") for slot, event in message.said()] if is_for else []
-        for slot, event, kind in mine:
-            revision = event.sequence, event.stamp, kind == "cancelled"
-            slots = said.setdefault((event.organiser, event.uid), {})
-            if slot not in slots or slots[slot][0] < revision:
-                slots[slot] = revision, kind, event
-    found = {}
-    for meeting, slots in said.items():
-        whole = slots.get(None)
-        for slot, (revision, kind, event) in slots.items():
-            if slot is None or whole is None or revision[:2] >= whole[0][:2] and not (whole[1] == "cancelled" and revision[:2] == whole[0][:2]):
-                found[(*meeting, slot)] = kind, event
-    return found
-
-
-def expected(messages):
-    """Of each REQUEST and ADD who answers it: the rooms, each with the slots of its VEVENTs that count."""
-    views = {room: newest(messages, room) for room in ROOMS}
-    found = []
-    for message in messages:
-        answers = []
-        for room in ROOMS:
-            slots = [slot for slot, event in message.said() if views[room].get((event.organiser, event.uid, slot)) == ("asked", event)]
-            answers += [(room, slot, message.events[0].sequence) for slot in sorted(slots, key=lambda it: (it is not None, it or 0))] if message.method != "CANCEL" else []
-        found.append(answers)
-    return views, found
-
-
-def confirmed(view, accepted, room):
-    """The instances of what this room has accepted: start, end, and meeting, until the end of the span."""
-    until = datetime(2027, 1, 3)
-    hidden = {key for key in view if key[2] is not None}
-    found = []
-    for (organiser, uid, slot), (kind, event) in view.items():
-        if kind != "asked" or (organiser, uid, slot) not in accepted:
-            continue
-        for start in event.starts(room, until):
-            if slot is not None or (organiser, uid, start) not in hidden:
-                found.append((start, event.end(room, start), uid))
-    return sorted(found)
+def expected(texts):
+    """The books of the rooms that took these messages, by the model; and of each message who answers it with which revisions once it is sent again: the rooms, each
+    with the slots of its VEVENTs that count and their SEQUENCE. Both are the same in each order of the messages."""
+    said = [books.Message(text) for text in texts]
+    rooms = {room: books.RoomBook(room, NAMES[zone] if zone != "UTC" else None, HORIZON, [(it, NOW) for it in said]) for room, zone in ROOMS.items()}
+    answers = []
+    for it in said:
+        parts = [(room, part) for room, book in rooms.items() for part in books.in_order({part for part, _ in books.parts_of(it, room, book.zone)}) if part in book.view and part.kind == books.SET]
+        answers.append([(room, part.slot, part.revision[0]) for room, part in parts])
+    return rooms, answers
 
 
 # ---- runs
-
-
-def run(*words, given=""):
-    ended = subprocess.run([PROGRAM, *words], input=given.encode(), capture_output=True, timeout=300)
-    return ended.returncode, ended.stdout.decode()
 
 
 def answered(text):
@@ -357,7 +280,7 @@ def answered(text):
     found = []
     for event in re.findall(r"BEGIN:VEVENT\r\n(.*?)END:VEVENT", text.replace("\r\n ", ""), re.DOTALL):
         slot = re.search(r"RECURRENCE-ID:(\w+)", event)
-        slot = slot and datetime.strptime(slot[1], "%Y%m%dT%H%M%SZ").replace(tzinfo=timezone.utc)
+        slot = slot and moment(slot[1])
         room, word = re.search(r"ATTENDEE;PARTSTAT=(\w+):(.*)\r", event).group(2, 1)
         found.append((room, slot, int(re.search(r"SEQUENCE:(\d+)", event)[1]), word))
     return found
@@ -370,61 +293,63 @@ def in_order(chance, texts):
     return order
 
 
-def replayed(cases, number, messages, people, chance, met):
-    """One order of the day."""
-    views, wanted = expected(messages)
-    order = in_order(chance, [message.text() for message in messages] + people)
+def replayed(cases, program, number, day, messages, people, chance, met):
+    """One order of the day, of which this is expected."""
+    rooms, wanted = day
+    order = in_order(chance, messages + people)
     stream = PREAMBLE + "\r\n".join(STORES + order) + "\r\n"
     # behind the day, and behind each message that is sent once more, comes an object that is refused
-    status, replies = run("serve", given=stream + "".join(text + SPOILED + "\r\n" for text in ["", *(message.text() + "\r\n" for message in messages)]))
+    status, replies, _ = run(program, "serve", given=stream + "".join(text + SPOILED + "\r\n" for text in ["", *(text + "\r\n" for text in messages)]))
     before, *again, rest = re.split(r"REFUSED;OBJECT=\d+:24\r\n", replies)
     cases.holds(f"order {number}: the day", (status, len(again), rest, replies.count("REFUSED")), (0, len(messages), "", len(messages) + 1))
     met.update(word.lower() for word in re.findall(r"METHOD:REFRESH|ACCEPTED|DECLINED", before))
-    found = [answered(text) for text in again]
+    found, meetings = [answered(text) for text in again], [(it.organiser, it.uid) for it in map(books.Message, messages)]
     cases.holds(f"order {number}: who answers which revision", [[it[:3] for it in reply] for reply in found], wanted)
     cases.holds(f"order {number}: nobody asks for a refresh again", [text for text in again if "METHOD:REFRESH" in text], [])
-    for room in ROOMS:
-        accepted = {(message.events[0].organiser, message.events[0].uid, slot) for message, reply in zip(messages, found) for who, slot, _, word in reply if who == room and word == "ACCEPTED"}
-        checks(cases, number, room, stream, confirmed(views[room], accepted, room), met)
-    return run("meetings", HOST, given=stream)
+    for room, book in rooms.items():
+        accepted = {(slot, *meeting) for meeting, reply in zip(meetings, found) for who, slot, _, word in reply if who == room and word == "ACCEPTED"}
+        hours = [(start, end) for _, _, start, end in book.confirmed(lambda part: (part.slot, *part.meeting) in accepted)]
+        checks(cases, program, number, room, stream, sorted(hours), met)
+    return run(program, "meetings", HOST, given=stream)
 
 
-def checks(cases, number, room, stream, hours, met):
+def checks(cases, program, number, room, stream, hours, met):
     """The kept calendar of a room, its certificate and its agenda, against the hours that were reckoned."""
     clashes = [(one, other) for one, other in zip(hours, hours[1:]) if other[0] < one[1]]
     cases.holds(f"order {number}, {room}: no two clash", clashes, [])
-    with tempfile.TemporaryDirectory() as folder:
-        calendar, certificate = Path(folder, "c"), Path(folder, "k")
-        calendar.write_text(run("keep", room, given=stream)[1], newline="")
-        certificate.write_text(run("keep", "--certificate", room, given=stream)[1], newline="")
-        cases.holds(f"order {number}, {room}: the checker", run("check", str(calendar), str(certificate), room), (0, "yes\n"))
-        span = tuple(map(moment, SPAN))
-        seconds = sorted((int(start.timestamp()), int(end.timestamp())) for start, end, _ in hours)
-        seconds = [it for it in seconds if max(it[0], span[0]) < min(it[1], span[1])]
-        cases.holds(f"order {number}, {room}: the kept calendar", instances(Calendar(calendar.read_bytes().decode(), room), *span), seconds)
-        lines = run("agenda", str(calendar), room, "--from", SPAN[0], "--until", SPAN[1])[1].splitlines()
-        cases.holds(f"order {number}, {room}: its agenda", sorted(tuple(moment(it) for it in line.split(" ")[:2]) for line in lines), seconds)
-        met["instances"] += len(seconds)
+    calendar, certificate = kept(program, stream, room=room), kept(program, stream, "--certificate", room=room)
+    cases.holds(f"order {number}, {room}: the checker", checked(program, calendar, certificate, room)[:2], (0, "yes\n"))
+    span = tuple(map(moment, SPAN))
+    seconds = [it for it in hours if max(it[0], span[0]) < min(it[1], span[1])]
+    cases.holds(f"order {number}, {room}: the kept calendar", instances(Calendar(calendar, room), *span), seconds)
+    lines = with_calendar(program, calendar, "agenda", room, "--from", SPAN[0], "--until", SPAN[1])[1].splitlines()
+    cases.holds(f"order {number}, {room}: its agenda", sorted(tuple(moment(it) for it in line.split(" ")[:2]) for line in lines), seconds)
+    met["instances"] += len(seconds)
 
 
 def main():
-    cases, met = Cases(), Counter()
-    day = Day(random.Random(f"day {SEED}"))
-    people, latest = conversation(random.Random(f"people {SEED}"))
+    parser = argparse.ArgumentParser()
+    parser.add_argument("program", nargs="?")
+    parser.add_argument("--orders", type=int, default=10)
+    parser.add_argument("--seed", type=int, default=1)
+    words, cases, met, program = parser.parse_args(), Cases(), Counter(), of_arguments()
+    day = Day(random.Random(f"day {words.seed}"))
+    people, latest = conversation(random.Random(f"people {words.seed}"))
     kinds = Counter(message.method for message in day.messages)
     views = []
-    for number in range(ORDERS):
-        views.append(replayed(cases, number, day.messages, people, random.Random(f"order {SEED} {number}"), met))
+    texts = [message.text() for message in day.messages]
+    known = expected(texts)
+    for number in range(words.orders):
+        views.append(replayed(cases, program, number, known, texts, people, random.Random(f"order {words.seed} {number}"), met))
     cases.holds("what the hosted organiser sees is one in all orders", len(set(views)), 1)
     text = views[0][1].replace("\r\n ", "")
     seen = {(uid, guest): word for event in re.findall(r"BEGIN:VEVENT.*?END:VEVENT", text, re.DOTALL) for uid in re.findall(r"UID:(\w+)", event)
             for guest in GUESTS for word in re.findall(rf"ATTENDEE;[^:]*PARTSTAT=([A-Z-]+)[^:]*:{guest}\r", event) if word != "NEEDS-ACTION"}
     cases.holds("and it is the latest of each guest", seen, latest)
-    print(f"{len(day.messages)} messages ({', '.join(f'{count} {kind}' for kind, count in sorted(kinds.items()))}) and {len(people)} of guests in {ORDERS} orders: "
+    print(f"{len(day.messages)} messages ({', '.join(f'{count} {kind}' for kind, count in sorted(kinds.items()))}) and {len(people)} of guests in {words.orders} orders: "
           + ", ".join(f"{count} {what}" for what, count in sorted(met.items())))
-    print(f"{cases.count} cases, {cases.failed} failed")
-    return 1 if cases.failed else 0
+    cases.end()
 
 
 if __name__ == "__main__":
-    sys.exit(main())
+    main()

@@ -3,16 +3,17 @@
     python3 tests/reports.py bin/roombox
 
 What is expected is written by hand from docs/REFERENCE.md and from what the system calls its errors. tests/guide.py has the reports of a stream, and
-what is said of a preamble. It prints each case that fails, and ends with 1 where one did.
+what is said of a preamble.
 """
 
 import os
 import subprocess
-import sys
 import tempfile
 from pathlib import Path
 
-from guide import PREAMBLE, R1, Cases, changed, message, request, run, vevent
+from lib.cases import Cases
+from lib.program import of_arguments, run
+from lib.streams import PREAMBLE, R1, changed, message, request, vevent
 
 NOBODY = 65_534
 KNOWN = ", UID a, ORGANIZER mailto:ann@example.com"
@@ -132,6 +133,8 @@ def devices(cases, program, parent):
         os.chmod(certificate, 0o600)
         ended = subprocess.run([program, "check", certificate, certificate, R1], capture_output=True, timeout=60, check=False, user=NOBODY)
         cases.holds("a file that may not be read", (ended.returncode, ended.stderr.decode()), (4, f"roombox: device\nroombox: {certificate}: permission is denied\n"))
+    else:
+        cases.lacks("a file that may not be read", "root")
 
 
 def boxes(cases, program, parent):
@@ -276,15 +279,16 @@ def files_that_fail(cases, program, parent):
         os.chmod(parent, 0o755)
         for prepare in (unreadable, unwritable):
             cases.holds(f"a box and {prepare.__name__}", *box(prepare, user=NOBODY))
+    else:
+        cases.lacks("a box that may not read or write", "root")
 
 
 def full_disk(cases, program, parent):
-    """The file that no space is left for; left out where nothing can be mounted."""
+    """The file that no space is left for."""
     outbox = parent / "outbox"
     outbox.mkdir()
     if subprocess.run(["mount", "-t", "tmpfs", "-o", "size=4k", "none", str(outbox)], capture_output=True, check=False).returncode != 0:
-        print("left out, as nothing can be mounted: a disk that is full")
-        return
+        return cases.lacks("a disk that is full", "a mount")
     try:
         (parent / "inbox").mkdir()
         (parent / "config").write_text(f"room {R1}\n")
@@ -300,7 +304,7 @@ def full_disk(cases, program, parent):
 
 
 def main():
-    program, cases = str(Path(sys.argv[1]).resolve()), Cases()
+    program, cases = of_arguments(), Cases()
     full_standard_error(cases, program)
     as_they_come(cases, program)
     told(cases, program)
@@ -308,8 +312,8 @@ def main():
     for part in (devices, boxes, left_alone, files_that_fail, full_disk):
         with tempfile.TemporaryDirectory() as folder:
             part(cases, program, Path(folder))
-    print(f"{cases.count} cases, {cases.failed} failed")
-    sys.exit(1 if cases.failed else 0)
+    cases.end()
 
 
-main()
+if __name__ == "__main__":
+    main()

@@ -1,28 +1,32 @@
-#!/usr/bin/env python3
-"""Makes the known zones of crates/text_examples: the current rules of fifteen zones as VTIMEZONEs, and what Python's
-zoneinfo says of them. It is run by hand, in the top folder: `python3 tests/zone_table.py`.
+"""Compares the known zones of crates/text_examples with the system's: the current rules of fifteen zones as VTIMEZONEs, and what Python's zoneinfo says of them.
+
+    python3 tests/zone_table.py             # without the program: rows.py and the gate hold the zones of roombox against the rows
+    python3 tests/zone_table.py --write     # writes the files anew, when zones have changed
 
 NAME.ics is an object whose one component is the VTIMEZONE, by the POSIX rule at the end of the system's file of
 that zone. NAME.txt has a row for each onset of 2025 to 2037, one second before it, at it and after it
 (`at INSTANT OFFSET`), and for local times half an hour and a day around each (`local LOCAL INSTANT`, the first of
 two, and in a gap read with the offset before it, as PEP 495 has it with fold=0). A zone of no onsets has rows of
-each year's first day. A rule that no accepted form can say gets the row `refused 40`. zone-names.txt lists the names,
+each year's first day. A rule that no accepted form can say gets the row `refused 40`. zone-names.txt has the names,
 and for each of them `stdout` has the line `ok NAME ROWS`.
 """
+
 import datetime as dt
 import pathlib
 import re
+import sys
 import zoneinfo
+
+from lib.cases import Cases
+from lib.program import ROOT
 
 ZONES = [
     "America/New_York", "America/Sao_Paulo", "Europe/London", "Europe/Berlin", "Europe/Moscow", "Asia/Kolkata",
     "Asia/Tokyo", "Australia/Sydney", "Australia/Lord_Howe", "Pacific/Auckland", "America/Santiago",
     "Africa/Cairo", "Asia/Kathmandu", "America/St_Johns", "Pacific/Honolulu",
 ]
-CRATE = pathlib.Path("crates/text_examples")
+CRATE = ROOT / "crates" / "text_examples"
 DATA = CRATE / "data"
-NAMES = DATA / "zone-names.txt"
-HEAD = "# name: the zone of NAME.ics against the rows of NAME.txt (tests/zone_table.py makes all three)\n"
 FILES = pathlib.Path("/usr/share/zoneinfo")
 WEEKDAYS = ["SU", "MO", "TU", "WE", "TH", "FR", "SA"]
 EPOCH = dt.datetime(1970, 1, 1)
@@ -128,28 +132,21 @@ def rows(zone):
             yield local_row(zone, onset + offset_at(zone, onset - 1) + step)
 
 
-def replace_outcome(before, outcome):
-    """Puts new lines into stdout where those of the names before are."""
-    lines = (CRATE / "stdout").read_text().splitlines()
-    old = [place for place, line in enumerate(lines) if re.fullmatch(r"ok (%s) \d+" % "|".join(before), line)]
-    assert old == list(range(old[0], old[0] + len(before))), old
-    lines[old[0]:old[-1] + 1] = outcome
-    (CRATE / "stdout").write_text("".join(x + "\n" for x in lines))
-
-
 def main():
-    before = [x for x in NAMES.read_text().splitlines() if not x.startswith("#")]
-    names, outcome = [], []
+    cases, told = Cases(), (CRATE / "stdout").read_text().splitlines()
+    names = [line for line in (DATA / "zone-names.txt").read_text().splitlines() if not line.startswith("#")]
+    cases.holds("zone-names.txt", names, [place.split("/")[1].lower() for place in ZONES])
     for place in ZONES:
         name = place.split("/")[1].lower()
         rule = (FILES / place).read_bytes().split(b"\n")[-2].decode()
         lines = list(rows(zoneinfo.ZoneInfo(place))) if parts(rule)[1] else ["refused 40"]
-        (DATA / (name + ".ics")).write_bytes(object_text(rule).encode())
-        (DATA / (name + ".txt")).write_text("".join(x + "\n" for x in lines))
-        names.append(name)
-        outcome.append("ok %s %d" % (name, len(lines)))
-    NAMES.write_text(HEAD + "".join(x + "\n" for x in names))
-    replace_outcome(before, outcome)
+        for file, text in ((f"{name}.ics", object_text(rule)), (f"{name}.txt", "".join(it + "\n" for it in lines))):
+            if "--write" in sys.argv:
+                (DATA / file).write_bytes(text.encode())
+            cases.holds(file, (DATA / file).read_bytes().decode(), text)
+        cases.holds(f"the line of {name} in stdout", f"ok {name} {len(lines)}" in told, True)
+    cases.end()
 
 
-main()
+if __name__ == "__main__":
+    main()

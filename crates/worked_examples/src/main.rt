@@ -29,9 +29,9 @@ fn main(rt: HostRuntime) -> io::Result<()> {
     print_answers(&rt, "messages.txt")?;
     // by hand, and by tests/certificate_by_dateutil.py
     print_answers(&rt, "residues.txt")?;
-    // made by tests/events_by_dateutil.py
+    // compared with tests/lib/calendars.py by tests/expand_by_dateutil.py
     print_answers(&rt, "events.txt")?;
-    // made by tests/calendars_by_icalendar.py
+    // compared by tests/calendars_by_icalendar.py
     print_answers(&rt, "calendars.txt")?;
     // made by tests/organisers_by_model.py
     print_answers(&rt, "organisers.txt")
