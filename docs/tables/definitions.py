@@ -1,9 +1,8 @@
 """Writes two tables of docs/DEFINITIONS.md: what has to be read to believe what, and the files of `profile`.
 
-    python3 bench/definitions_tables.py            writes each table between its two marker comments
-    python3 bench/definitions_tables.py --check    changes nothing; ends with 1 where a table isn't that of the sources
+    python3 docs/tables/definitions.py [--check]
 
-What is read counts bench/reading_paths.py, from the clauses that it begins at. The files are in an order in which each comes after those that it uses.
+What is read counts tools/reading_paths.py, from the clauses that it begins at. The files are in an order in which each comes after those that it uses.
 What one defines is the comment at its head; the names are those of its own that most files of code import.
 """
 
@@ -11,11 +10,9 @@ import collections
 import re
 import sys
 
-from reading_paths import CRATES, PATHS, File, clause, imports, read, wanted
-from repository import ROOT
+from pages import CRATES, DEFINED, head, put, row
+from reading_paths import PATHS, believed, imports
 
-PAGE = ROOT / "docs" / "DEFINITIONS.md"
-TABLE = re.compile(r"(<!-- table: bench/definitions_tables\.py (\w+) -->\n)(.*?)(<!-- end of table -->\n)", re.DOTALL)
 SPECS = CRATES / "profile" / "specs"
 # how a path begins, in words, and how its column in the table of files is headed
 BEGINNINGS = {
@@ -26,32 +23,12 @@ BEGINNINGS = {
 }
 
 
-def paths():
-    """For each path how many lines its clauses have, and how many of each file it needs."""
-    files = {}
-    for path in sorted(CRATES.glob("*/specs/**/*.antt")):
-        crate, _, *rest = path.relative_to(CRATES).with_suffix("").parts
-        files[(crate, "/".join(rest))] = File(path)
-    found = {}
-    for name, clauses in PATHS.items():
-        contracts, blocks = 0, set()
-        for one in clauses:
-            own, text = clause(one)
-            contracts += len(text.split("\n"))
-            blocks |= read(files, wanted(own, None, text))
-        lines = collections.Counter()
-        for where, block in blocks:
-            lines[where] += len(files[where].blocks[block])
-        found[name] = (contracts, lines)
-    return found
-
-
 def reading(found):
     """The table of the paths."""
-    yield "| To believe | Begin with the clauses | Contracts | `profile` | Representation |\n|---|---|---:|---:|---:|\n"
+    yield head(("To believe", "Begin with the clauses", "Contracts", "`profile`", "Representation"), 3)
     for name, (contracts, lines) in found.items():
         own = sum(count for (crate, _), count in lines.items() if crate == "profile")
-        yield f"| {name} | {BEGINNINGS[name][0]} | {contracts:,} | {own:,} | {lines.total() - own:,} |\n"
+        yield row((name, BEGINNINGS[name][0], contracts, own, lines.total() - own))
 
 
 def head_of(text):
@@ -98,27 +75,18 @@ def files(found):
         for name, (where, own) in imports(source.read_text(encoding="utf-8"))[0].items():
             cited[(where, own)] += 1
     columns = [BEGINNINGS[name][1] for name in found]
-    yield f"| File | What it defines | Names that contracts cite most | {' | '.join(columns)} |\n|---|---|---|{'---:|' * len(columns)}\n"
+    yield head(("File", "What it defines", "Names that contracts cite most", *columns), len(columns))
     for name in ordered(texts):
         where = ("profile", name)
-        own = list(dict.fromkeys(re.findall(r"^ *(?:pub )?(?:abbrev|unfoldable|data|record)(?: pub)? ([^\s:({]+)", texts[name], re.MULTILINE)))
+        own = dict.fromkeys(DEFINED.findall(texts[name]))
         own = sorted((it for it in own if cited[(where, it)]), key=lambda it: -cited[(where, it)])[:6]
-        counts = " | ".join(str(lines[where] or "") for _, lines in found.values())
-        yield f"| `{name}` | {head_of(texts[name])} | {', '.join(f'`{it}`' for it in own)} | {counts} |\n"
+        counts = (str(lines[where] or "") for _, lines in found.values())
+        yield row((f"`{name}`", head_of(texts[name]), ", ".join(f"`{it}`" for it in own), *counts))
 
 
 def main():
-    if sys.argv[1:] not in ([], ["--check"]):
-        sys.exit(__doc__)
-    found, text = paths(), PAGE.read_text(encoding="utf-8")
-    made = TABLE.sub(lambda it: it[1] + "".join({"reading": reading, "files": files}[it[2]](found)) + it[4], text)
-    if [it[2] for it in TABLE.finditer(text)] != ["reading", "files"]:
-        sys.exit(f"{PAGE.relative_to(ROOT)}: the marker comments aren't there")
-    if sys.argv[1:]:
-        print(f"{PAGE.relative_to(ROOT)}: the tables are {'those of the definitions' if made == text else 'stale: run bench/definitions_tables.py'}")
-        return int(made != text)
-    PAGE.write_text(made, encoding="utf-8")
-    return 0
+    found = {name: believed(clauses) for name, clauses in PATHS.items()}
+    return put(__doc__, [("DEFINITIONS.md", made.__name__, "".join(made(found))) for made in (reading, files)])
 
 
 if __name__ == "__main__":

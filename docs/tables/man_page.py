@@ -1,6 +1,6 @@
 """Makes the man page and the bash completion of a program from its help.
 
-    python3 bench/man_page.py bin/roombox docs      # writes docs/roombox.1 and docs/roombox.bash (`make man`)
+    python3 docs/tables/man_page.py bin/roombox docs      # writes docs/roombox.1 and docs/roombox.bash (`make man`)
 
 All that the two say of commands, options, statuses and examples is what `PROGRAM --help` and `PROGRAM COMMAND --help` print; tests/guide.py looks
 whether the files of docs/ are what is made from the program that it tries.
@@ -94,7 +94,7 @@ def man_page(program):
     top, commands = all_help(program)
     version = subprocess.run([program, "--version"], capture_output=True, check=True, text=True).stdout.strip()
     name = version.split()[0]
-    out = [f'.\\" Made by bench/man_page.py from the help of {name}: edit the texts there.', f'.TH {name.upper()} 1 "" "{version}" "User Commands"']
+    out = [f'.\\" Made by docs/tables/man_page.py from the help of {name}: edit the texts there.', f'.TH {name.upper()} 1 "" "{version}" "User Commands"']
     out += [".SH NAME", f"{name} \\- {prose(top.about[0].lower() + top.about[1:].rstrip('.'))}"]
     out += [".SH SYNOPSIS", ".nf", *(f"\\fB{literal(help.usage)}\\fR" for help in (top, *commands.values())), ".fi"]
     out += [".SH DESCRIPTION", prose(top.about)]
@@ -119,7 +119,7 @@ def completion(program):
     names = list(commands)
     name = top.usage.split()[0]
     cases = "\n".join(f'    {command}) options="{" ".join(help.long_options())}" ;;' for command, help in commands.items())
-    return f"""# Completion of {name} in bash: `source docs/{name}.bash`. Made by bench/man_page.py from the help of {name}.
+    return f"""# Completion of {name} in bash: `source docs/{name}.bash`. Made by docs/tables/man_page.py from the help of {name}.
 
 _{name}() {{
     local word=${{COMP_WORDS[COMP_CWORD]}} options="{" ".join(names + top.long_options())}" at

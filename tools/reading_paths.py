@@ -1,6 +1,6 @@
 """Counts what has to be read to believe a clause of a call: the clause, and the definitions that its names use, file by file.
 
-    python3 bench/reading_paths.py [CRATE/src/FILE.rt.FUNCTION.CLAUSE ..]
+    python3 tools/reading_paths.py [CRATE/src/FILE.rt.FUNCTION.CLAUSE ..]
 
 Without names: the paths of docs/DEFINITIONS.md, a line a file. Followed are the names of `specs/` of every crate of the repository: those of
 `profile`, and the *representation specs*, by which a crate says what its values represent. A definition is a block between empty lines, its
@@ -9,11 +9,10 @@ comment with it. Not followed are std, and Rust's own types. Lines that are empt
 
 import re
 import sys
-from pathlib import Path
+from collections import Counter
 
-from repository import ROOT
+from repository import CRATES
 
-CRATES = ROOT / "crates"
 IMPORT = re.compile(r"^\s*(?:ghost |pub )*use Rattle\.(\w+)\.specs\.([\w.]+?)(?:\.\{([^}]*)\}| as (\w+));?\s*$", re.MULTILINE)
 # in a module with parameters a definition is indented
 DEFINED = re.compile(r"^ *(?:pub )?(?:abbrev|unfoldable|data|record)(?: pub)? ([^\s:({]+)", re.MULTILINE)
@@ -120,23 +119,28 @@ def clause(path):
     return own, text[head.start() : end]
 
 
-def main():
-    files = {}
+def believed(clauses):
+    """How many lines these clauses have, and how many of each file of `specs/` they need."""
+    files, contracts, blocks = {}, 0, set()
     for path in sorted(CRATES.glob("*/specs/**/*.antt")):
         crate, _, *rest = path.relative_to(CRATES).with_suffix("").parts
         files[(crate, "/".join(rest))] = File(path)
+    for one in clauses:
+        own, text = clause(one)
+        contracts += len(text.split("\n"))
+        blocks |= read(files, wanted(own, None, text))
+    lines = Counter()
+    for where, block in blocks:
+        lines[where] += len(files[where].blocks[block])
+    return contracts, lines
+
+
+def main():
     paths = {"the clauses given": sys.argv[1:]} if sys.argv[1:] else PATHS
     for path, clauses in paths.items():
-        blocks, contracts = set(), 0
-        for one in clauses:
-            own, text = clause(one)
-            contracts += len(text.split("\n"))
-            blocks |= read(files, wanted(own, None, text))
-        lines = {}
-        for where, block in blocks:
-            lines[where] = lines.get(where, 0) + len(files[where].blocks[block])
+        contracts, lines = believed(clauses)
         profile = sum(count for (crate, _), count in lines.items() if crate == "profile")
-        print(f"{path}: {sum(lines.values()) + contracts} lines: {contracts} of contracts, {profile} of profile, {sum(lines.values()) - profile} of representation specs")
+        print(f"{path}: {lines.total() + contracts} lines: {contracts} of contracts, {profile} of profile, {lines.total() - profile} of representation specs")
         for where in sorted(lines, key=lambda it: (it[0] != "profile", it)):
             print(f"    {where[0]}/{where[1]} {lines[where]}")
 

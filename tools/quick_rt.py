@@ -1,9 +1,12 @@
 """`rt`, which makes the sum of a crate's sources once.
 
-    python3 bench/quick_rt.py check --jobs 1
+    python3 tools/quick_rt.py check --jobs 1
 
 `rt` makes that sum anew for each way that leads from a crate to another in crates.txt: 4,490 sums for roombox, which take minutes before its first
 function is checked. Here each is kept. So nobody may change a source while it runs; the gate calls `rt` itself.
+
+It reaches into the kit: it loads the kit's own module `rtlib`, and puts another method in the place of `Crate.stamp`. It would be unnecessary if `rt`
+kept each sum while it runs.
 """
 
 import importlib.machinery

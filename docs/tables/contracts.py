@@ -1,26 +1,25 @@
 """Writes the tables of docs/CONTRACTS.md: what the contract of each call says, from the comments that stand at it.
 
-    python3 bench/contracts_table.py            writes each table between its two marker comments
-    python3 bench/contracts_table.py --check    changes nothing; ends with 1 where a table isn't that of the sources
-    python3 bench/contracts_table.py --left     lists the calls that crates offer and no table has
+    python3 docs/tables/contracts.py [--check]
+    python3 docs/tables/contracts.py --left       lists the calls that crates offer and no table has
 
 A table answers one question; CALLS below says which calls are in it. A row has the call's doc comment (`///`) and its clauses: the name of a
 clause, the comment above it, and in brackets the definitions of `specs/` that it names. Which calls a crate offers is what
-bench/public_calls.py finds. The text is read, and not proved: `rt check` says whether a clause holds.
+tools/public_calls.py finds. The text is read, and not proved: `rt check` says whether a clause holds.
 """
 
 import fnmatch
 import re
 import sys
 
-import public_calls
-from public_calls import CLAUSE, END_OF_TYPES, NAME, closing
-from repository import ROOT, crates_below
+from pages import CRATES, DEFINED, head, put, row
 
-PAGE = ROOT / "docs" / "CONTRACTS.md"
-TABLE = re.compile(r"(<!-- table: bench/contracts_table\.py (\w+) -->\n)(.*?)(<!-- end of table -->\n)", re.DOTALL)
+import public_calls
+from public_calls import CLAUSE, END_OF_TYPES, NAME, closing, title
+from repository import crates_below
+
 # what takes arguments: a type of values, as `record pub Book : Type 0`, says nothing of a call
-DEFINED = re.compile(r"^ *(?:pub )?(?:abbrev|unfoldable|data|record)(?: pub)? ([^\s:({]+)(?=[\s:({])(?!\s*(?:: Type 0|where\b|=))", re.MULTILINE)
+OF_ARGUMENTS = re.compile(DEFINED.pattern + r"(?=[\s:({])(?!\s*(?:: Type 0|where\b|=))", re.MULTILINE)
 RELATION = re.compile(r"\b[A-Z]\w*\b")
 
 # For each table the crates and their calls; `*` stands for any letters, as `Type::*` for all calls of a type.
@@ -129,14 +128,7 @@ def comment_above(text, place, mark):
 
 def definitions():
     """The names that the crates define, but for those of types of values."""
-    found = set()
-    for path in (ROOT / "crates").glob("*/specs/**/*.antt"):
-        found |= set(DEFINED.findall(path.read_text(encoding="utf-8")))
-    return found
-
-
-def title(call):
-    return f"{call.owner}::{call.name}" if call.owner else call.name
+    return {name for path in CRATES.glob("*/specs/**/*.antt") for name in OF_ARGUMENTS.findall(path.read_text(encoding="utf-8"))}
 
 
 def documented(crate):
@@ -147,20 +139,15 @@ def documented(crate):
     return [(title(call), call, *comments[id(call)]) for call in crate.calls]
 
 
-def cell(text):
-    return text.replace("|", "\\|")
-
-
 def said(clauses, known):
     """What the clauses say: their names, the comments above them, and the definitions that they name."""
     parts = []
     for kind, name, comment, words in clauses:
-        named = list(dict.fromkeys(word for word in RELATION.findall(words) if word in known))
-        head = " ".join(filter(None, ("asks" if kind == "requires" else "", f"`{name}`" if name else "")))
-        tail = ", ".join(f"`{word}`" for word in named)
+        named = ", ".join(f"`{word}`" for word in dict.fromkeys(RELATION.findall(words)) if word in known)
+        first = " ".join(filter(None, ("asks" if kind == "requires" else "", f"`{name}`" if name else "")))
         if comment or named:
-            text = f"{comment} ({tail})" if comment and tail else comment or tail
-            parts.append(f"{head}: {text}" if name else f"{head} {text}".strip())
+            text = f"{comment} ({named})" if comment and named else comment or named
+            parts.append(f"{first}: {text}" if name else f"{first} {text}".strip())
     return "<br>".join(parts)
 
 
@@ -176,23 +163,18 @@ def chosen(wanted, offered):
 
 def table(name, crates, known, wrong):
     """The rows of a table. What isn't offered, or has no comment, is wrong; what implements a trait needs none."""
-    rows = ["| Call | What it does | Its clauses, with the definitions that they name |\n|---|---|---|\n"]
+    text = head(("Call", "What it does", "Its clauses, with the definitions that they name"))
     for crate, wanted in CALLS[name].items():
-        if crate not in crates:
-            wrong.append(f"there is no crate {crate}")
-            continue
         calls, faults = chosen(wanted, documented(crates[crate]))
         wrong += [f"{crate}: {it} isn't offered" for it in faults] + [f"{crate}: {it[0]} has no doc comment" for it in calls if not (it[2] or it[1].trait)]
-        rows.append(f"| **{crate}** | | |\n")
+        text += f"| **{crate}** | | |\n"
         for one, call, comment, clauses in calls:
             law = " (a law)" if not call.parameters and not call.answer else ""
-            rows.append(f"| `{one}`{law} | {cell(comment)} | {cell(said(clauses, known))} |\n")
-    return "".join(rows)
+            text += row((f"`{one}`{law}", *(it.replace("|", "\\|") for it in (comment, said(clauses, known)))))
+    return text
 
 
 def main():
-    if sys.argv[1:] not in ([], ["--check"], ["--left"]):
-        sys.exit(__doc__)
     public_calls.Source = Documented
     crates = {name: public_calls.Crate(name) for name in crates_below() if name not in public_calls.LEFT_OUT}
     if sys.argv[1:] == ["--left"]:
@@ -200,19 +182,8 @@ def main():
             has = {it[0] for lists in CALLS.values() for it in chosen(lists.get(name, []), documented(crate))[0]}
             print(f"{name}: " + ", ".join(it[0] for it in documented(crate) if it[0] not in has))
         return 0
-    known, text = definitions(), PAGE.read_text(encoding="utf-8")
-    places = [found[2] for found in TABLE.finditer(text)]
-    if sorted(places) != sorted(CALLS):
-        sys.exit(f"{PAGE.relative_to(ROOT)} has the tables {places}, and not {list(CALLS)}")
     wrong = []
-    made = TABLE.sub(lambda found: found[1] + table(found[2], crates, known, wrong) + found[4], text)
-    for line in wrong:
-        print(line)
-    if sys.argv[1:]:
-        print(f"{PAGE.relative_to(ROOT)}: the tables are {'those of the contracts' if made == text else 'stale: run bench/contracts_table.py'}")
-        return int(made != text or bool(wrong))
-    PAGE.write_text(made, encoding="utf-8")
-    return int(bool(wrong))
+    return put(__doc__, [("CONTRACTS.md", name, table(name, crates, definitions(), wrong)) for name in CALLS], wrong)
 
 
 if __name__ == "__main__":

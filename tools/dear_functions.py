@@ -1,6 +1,6 @@
 """Times the proof of each function, by the progress lines of `rt check --jobs 1`, and prints a line for each: crate, function, seconds.
 
-    python3 bench/dear_functions.py [CRATE ..] [--lanes N] > out/functions.tsv
+    python3 tools/dear_functions.py [CRATE ..] [--lanes N] > out/functions.tsv
 
 A function's time is the prover's processor time since the progress line before its own: it holds the lemma files that are first cited there. The
 time up to the first function, which loads the libraries, is the crate's row `start`. The crates' libraries must be built (`make run`); each crate's

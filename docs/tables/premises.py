@@ -1,8 +1,6 @@
 """Lists what somebody who trusts the definitions and the prover still has to believe, and writes it as a table of docs/ASSURANCE.md.
 
-    python3 bench/premises.py            writes the table between its two marker comments
-    python3 bench/premises.py --check    changes nothing; ends with 1 where the table isn't that of the sources
-    python3 bench/premises.py --list     prints what the sources have, a line each, with what is said of it here
+    python3 docs/tables/premises.py [--check]
 
 Three kinds of premises are looked for in what crates offer. *Asked*: a `requires` of a call, which each caller in this repository is proved to meet,
 and a caller elsewhere has to. *Represents*: a definition of a crate's own, not of `profile`, that stands left of an arrow in a clause: the clause says
@@ -13,13 +11,12 @@ nothing of a value for which it doesn't hold. *Told*: a ghost member of a trait,
 import re
 import sys
 
-import public_calls
-from public_calls import blanked, closing
-from repository import ROOT, crates_below
+from pages import CRATES, DEFINED, head, put, row
 
-PAGE = ROOT / "docs" / "ASSURANCE.md"
-TABLE = re.compile(r"(<!-- table: bench/premises\.py -->\n)(.*?)(<!-- end of table -->\n)", re.DOTALL)
-DEFINED = re.compile(r"^ *(?:pub )?(?:abbrev|unfoldable|data|record)(?: pub)? ([^\s:({]+)", re.MULTILINE)
+import public_calls
+from public_calls import blanked, closing, title
+from repository import crates_below
+
 GHOST = re.compile(r"\bghost (\w+)\b(?! *use)")
 
 # (kind, what): (verdict, why, or where)
@@ -102,14 +99,10 @@ KINDS = {
 def own_definitions():
     """The names that a crate other than `profile` defines in its specs/, and `profile` doesn't."""
     found = {}
-    for path in (ROOT / "crates").glob("*/specs/**/*.antt"):
+    for path in CRATES.glob("*/specs/**/*.antt"):
         for name in DEFINED.findall(path.read_text(encoding="utf-8")):
-            found.setdefault(name, set()).add(path.relative_to(ROOT / "crates").parts[0])
+            found.setdefault(name, set()).add(path.relative_to(CRATES).parts[0])
     return {name for name, crates in found.items() if "profile" not in crates}
-
-
-def title(call):
-    return f"{call.owner}::{call.name}" if call.owner else call.name
 
 
 def asked(crates):
@@ -134,7 +127,7 @@ def told(crates):
     found = set()
     for crate in crates:
         for module in crate.sources:
-            text = blanked((ROOT / "crates" / crate.name / "src" / f"{module}.rt").read_text(encoding="utf-8"))
+            text = blanked((CRATES / crate.name / "src" / f"{module}.rt").read_text(encoding="utf-8"))
             for trait in re.finditer(r"\bpub trait (\w+)[^{]*\{", text):
                 body = text[trait.end() : closing(text, trait.end() - 1)]
                 found |= {("told", f"{trait[1]}.{member}") for member in GHOST.findall(body) if member != "use"}
@@ -143,32 +136,19 @@ def told(crates):
 
 def rows(found):
     """The table's rows, kind by kind, in the order of VERDICTS."""
-    lines = ["| Premise | It is | Why, or where |\n|---|---|---|\n"]
-    for kind, head in KINDS.items():
-        lines.append(f"| {head} | | |\n")
-        lines += [f"| `{what}` | {verdict} | {why} |\n" for (its, what), (verdict, why) in VERDICTS.items() if its == kind and (its, what) in found]
-    return "".join(lines)
+    text = head(("Premise", "It is", "Why, or where"))
+    for kind, name in KINDS.items():
+        text += f"| {name} | | |\n"
+        text += "".join(row((f"`{what}`", *said)) for (its, what), said in VERDICTS.items() if its == kind and (its, what) in found)
+    return text
 
 
 def main():
-    if sys.argv[1:] not in ([], ["--check"], ["--list"]):
-        sys.exit(__doc__)
     crates = [public_calls.Crate(name) for name in crates_below() if name not in public_calls.LEFT_OUT]
     found = asked(crates) | represented(crates) | told(crates)
-    if sys.argv[1:] == ["--list"]:
-        for one in sorted(found):
-            print(*one, *VERDICTS.get(one, ("?", "no verdict")), sep=" | ")
-        return 0
     wrong = [f"no verdict: {kind} {what}" for kind, what in sorted(found - set(VERDICTS))]
     wrong += [f"not there: {kind} {what}" for kind, what in sorted(set(VERDICTS) - found)]
-    text = PAGE.read_text(encoding="utf-8")
-    made = TABLE.sub(lambda place: place[1] + rows(found) + place[3], text)
-    if made != text or not TABLE.search(text):
-        wrong += ["the table isn't that of the sources"] if sys.argv[1:] or not TABLE.search(text) else []
-        if not sys.argv[1:]:
-            PAGE.write_text(made, encoding="utf-8")
-    print("\n".join(wrong) or f"{len(found)} premises, each with a verdict")
-    return int(bool(wrong))
+    return put(__doc__, [("ASSURANCE.md", "", rows(found))], wrong)
 
 
 if __name__ == "__main__":

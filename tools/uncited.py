@@ -1,6 +1,6 @@
 """Names the lemmas under proofs/ that nothing cites: what only a removed proof needed, and what stands on that alone.
 
-    python3 bench/uncited.py [CRATE ..]     # a line for each file: its path and its names; the last line counts them
+    python3 tools/uncited.py [CRATE ..]     # a line for each file: its path and its names; the last line counts them
 
 A lemma is looked for by its signature, `name : ..`, at most two columns in. Its name counts as cited where it occurs in any crate outside of its own
 lines, in comments too. Worked examples are cited by nobody, and stay; answers and invariants are found by their names. The status is 1 where there is one.

@@ -1,15 +1,16 @@
 """Tries planted edits: wrong programs, one small change each, that the prover must refuse.
 
-    python3 bench/attack.py [CRATE ..] [--since COMMIT] [--left] [--folder must-fail] [--lanes N] [--at-most N]
+    python3 tools/attack.py [CRATE ..] [--since COMMIT] [--left] [--lanes N]
+    python3 tools/attack.py --check      tries none: each edit has to apply, no two make the same program, and there are at most 500
 
-With no crate: all that have a folder planted/. --since takes the crates that changed since a commit, and those above them. --left takes the
-edits that weren't refused yet with the sources as they are: bench/attacked.txt has, for each edit that was, how, and the sum of its text and of
-the sources, definitions and proofs of its crate and of all that it uses. So an attack may be cut off, and goes on where it was.
+With no crate: all that have a folder planted/. --since takes the crates that changed since a commit, and those above them. The verdict of each
+edit goes into out/attack.tsv, as soon as it is known: its crate and name, the verdict, and a sum of its text and of the sources, definitions and
+proofs of its crate and of all that it uses. --left takes the edits that this file doesn't have as refused with the sources as they are.
 
 The edits are in crates/NAME/planted/*.edit, in the form of must-fail/: a line `file: src/lib.rt`, then pairs of lines `old: TEXT` and
 `new: TEXT`, where the old text occurs once in the file; here a text may go on with the lines below it. `rt ci` tries those of must-fail/ one
 by one; these are tried in rounds, for a fifth of the time or less. A round is one `rt check --jobs 1` of a fresh copy of the proved crate with edits
-of different functions in it, at most 24 (--at-most): with more of them a check takes more memory than that of the crate itself, and what is cut off is
+of different functions in it, at most 24: with more of them a check takes more memory than that of the crate itself, and what is cut off is
 lost. A round looks at these functions only (--only), not at those that call them. Each edit is judged by the goals of its own function: a function that
 fails only because it calls another one doesn't count. What is outside src/, or in no function's body, is tried alone, by the functions of its modules,
 and so is each edit that its round didn't refuse; what these don't refuse is tried by a check of the whole crate. An edit is let through where the crate
@@ -18,7 +19,6 @@ The last line is `N refused, M let through`. The status is 0 where none was let 
 """
 
 import argparse
-import fcntl
 import hashlib
 import os
 import re
@@ -29,7 +29,7 @@ import tempfile
 from collections import namedtuple
 from concurrent.futures import ThreadPoolExecutor
 
-from repository import QUICK_RT, ROOT, copied, crates_below, pairs_of
+from repository import CRATES, QUICK_RT, ROOT, copied, crates_below
 
 FUNCTION = re.compile(r"^( *)(?:pub(?:\([^)]*\))? )?(?:const )?(?:unsafe )?fn (\w+)")
 IMPL = re.compile(r"^impl(?:<[^{]*?>)? (?:([\w:]+)(?:<.*>)? for )?&?(?:'\w+ )?(?:mut )?(\w+)")
@@ -52,11 +52,28 @@ OF_A_LEMMA = re.compile(r"depends? on `([^`]+)`, which was (?:not admitted|rejec
 # the lemmas that weren't looked at for that reason
 NOT_CHECKED = re.compile(r"^\S+: error: (\d+ declarations? that depends? on `[^`]+`, .*) not checked: (.*)$", re.MULTILINE)
 
-# Which edits were refused: a line each with crate/name, the sum and how.
-LEDGER = ROOT / "bench" / "attacked.txt"
+LEDGER = ROOT / "out" / "attack.tsv"
+# edits of a round, and in all
+MOST, MOST_IN_ALL = 24, 500
 
 # An edit: its crate, its name, its (file, old, new), and the ends of the names of the functions that it changes; None where one isn't known.
 Edit = namedtuple("Edit", "crate name pairs functions")
+
+
+def pairs_of(text):
+    """The (file, old, new) of an edit. A text goes on with the lines below it; a `new:` without a text drops the old one."""
+    pairs, file, texts = [], None, None
+    for line in text.rstrip("\n").split("\n"):
+        if line.startswith("file: "):
+            file, texts = line[len("file: ") :].strip(), None
+        elif line.startswith("old: "):
+            texts = [[line[len("old: ") :]], []]
+            pairs.append((file, *texts))
+        elif line.startswith("new:") and texts and not texts[1]:
+            texts[1].append(line[len("new:") :].removeprefix(" "))
+        elif texts:
+            texts[1 if texts[1] else 0].append(line)
+    return [(file, "\n".join(old), "\n".join(new)) for file, old, new in pairs if new]
 
 
 def function_at(crate, file, text, place):
@@ -85,7 +102,7 @@ def read_edit(crate, path):
     """An edit of a file, and why it can't be applied, if so."""
     pairs, functions, texts, wrong = pairs_of(path.read_text(encoding="utf-8")), set(), {}, None
     for file, old, new in pairs:
-        source = ROOT / "crates" / crate / file
+        source = CRATES / crate / file
         text = texts.get(file) or (source.read_text(encoding="utf-8") if source.is_file() else "")
         if text.count(old) != 1:
             wrong = wrong or f"an old text occurs in {file} {text.count(old)} times"
@@ -97,11 +114,11 @@ def read_edit(crate, path):
     return Edit(crate, path.stem, pairs, None if None in functions else frozenset(functions)), wrong if pairs else "it has no pair"
 
 
-def rounds_of(edits, most):
+def rounds_of(edits):
     """Edits of different functions together, so many at most; those of no known function alone."""
     rounds = []
     for edit in edits:
-        fits = lambda it: len(it) < most and all(other.functions and not other.functions & edit.functions for other in it)
+        fits = lambda it: len(it) < MOST and all(other.functions and not other.functions & edit.functions for other in it)
         room = next((it for it in rounds if edit.functions and fits(it)), None)
         rounds.append([edit]) if room is None else room.append(edit)
     return rounds
@@ -112,7 +129,7 @@ def edited(crate, edits):
     texts = {}
     for edit in edits:
         for file, old, new in edit.pairs:
-            text = texts.get(file) or (ROOT / "crates" / crate / file).read_text(encoding="utf-8")
+            text = texts.get(file) or (CRATES / crate / file).read_text(encoding="utf-8")
             if text.count(old) != 1:
                 return texts, edit
             texts[file] = text.replace(old, new)
@@ -130,7 +147,7 @@ def paths_of(crate, edit):
         if part == "specs":
             module = re.sub(r"(?<=[a-z])([A-Z])", r"_\1", module).lower()
         if part in ("src", "specs"):
-            if module in ("lib", "main") or not (ROOT / "crates" / crate / "src" / f"{module}.rt").is_file():
+            if module in ("lib", "main") or not (CRATES / crate / "src" / f"{module}.rt").is_file():
                 return set()
             found.add(module.replace("/", "::"))
     return found
@@ -176,7 +193,7 @@ def is_in(name, functions):
 def is_open(crate, said, functions, texts):
     """Is a goal of one of these functions open for which no proof text was written? It is told at the function's head, or in its body."""
     for file, line in UNPROVED.findall(said):
-        text = texts.get(file) or (ROOT / "crates" / crate / file).read_text(encoding="utf-8")
+        text = texts.get(file) or (CRATES / crate / file).read_text(encoding="utf-8")
         lines = text.split("\n")
         starts = (sum(len(it) + 1 for it in lines[:at]) for at in range(int(line) - 1, min(int(line) + 30, len(lines))))
         if next((it for it in (function_at(crate, file, text, at) for at in starts) if it), None) in functions:
@@ -255,7 +272,7 @@ def sums_of(below):
     """Of each crate the sum of its sources, definitions and proofs, and of those of all that it uses."""
     own = {}
     for crate in below:
-        files = sorted(it for part in ("src", "specs", "proofs") for it in (ROOT / "crates" / crate / part).rglob("*") if it.is_file())
+        files = sorted(it for part in ("src", "specs", "proofs") for it in (CRATES / crate / part).rglob("*") if it.is_file())
         own[crate] = sum_of(text for it in files for text in (str(it.relative_to(ROOT)), it.read_text(encoding="utf-8")))
     return {crate: sum_of(own[it] for it in sorted(below[crate])) for crate in below}
 
@@ -264,23 +281,18 @@ def edit_sum(edit, sums):
     return sum_of([sums[edit.crate], *(text for pair in edit.pairs for text in pair)])
 
 
-def refused_before():
-    """The edits that were refused, with the sum and how."""
+def known():
+    """What came of each edit when it was tried last: the verdict and the sum."""
     lines = LEDGER.read_text(encoding="utf-8").splitlines() if LEDGER.is_file() else []
-    return dict((it.split(" ")[0], it.split(" ", 2)[1:]) for it in lines)
+    return {name: (verdict, own) for name, verdict, own in (it.split("\t") for it in lines)}
 
 
 def note(results, sums):
-    """Notes which edits were refused; one that is gone, or was let through, has no line any more. Attacks on several crates may run side by side."""
+    """Adds what came of some edits; the last line of an edit counts."""
     with open(LEDGER, "a", encoding="utf-8") as ledger:
-        fcntl.flock(ledger, fcntl.LOCK_EX)
-        found = refused_before()
-        for edit, how, _ in results:
-            found.pop(f"{edit.crate}/{edit.name}", None)
-            if how:
-                found[f"{edit.crate}/{edit.name}"] = [edit_sum(edit, sums), how]
-        is_there = lambda it: (ROOT / "crates" / it.replace("/", "/planted/")).with_suffix(".edit").is_file()
-        LEDGER.write_text("".join(f"{it} {' '.join(found[it])}\n" for it in sorted(found) if is_there(it)), encoding="utf-8")
+        for edit, how, why in results:
+            verdict = f"refused {how}" if how else f"LET THROUGH: {why}"
+            ledger.write(f"{edit.crate}/{edit.name}\t{' '.join(verdict.split())}\t{edit_sum(edit, sums)}\n")
 
 
 def attack(crate, below, edits, sums):
@@ -301,35 +313,56 @@ def changed_since(commit, below):
     return [name for name in below if changed & below[name]]
 
 
+def faults(names):
+    """How many edits of these crates there are, and what is wrong with them, before any is tried."""
+    paths, found, programs = [it for name in names for it in sorted((CRATES / name).glob("*/*.edit"))], [], {}
+    for path in paths:
+        edit, wrong = read_edit(path.parts[-3], path)
+        if not wrong:
+            made = frozenset((file, " ".join(text.split())) for file, text in edited(edit.crate, [edit])[0].items())
+            other = programs.setdefault((edit.crate, made), path)
+            wrong = "" if other == path else f"the same program as that of {other.relative_to(CRATES)}"
+        if wrong:
+            found.append(f"{path.relative_to(CRATES)}: {wrong}")
+    return len(paths), found + ([f"there are {len(paths)} edits, and not {MOST_IN_ALL} at most"] if len(paths) > MOST_IN_ALL else [])
+
+
+def is_proved(crate):
+    """Is a crate proved without an edit? Also what judges the edits has to see no refusal there."""
+    how = {"stdin": subprocess.DEVNULL, "stdout": subprocess.PIPE, "stderr": subprocess.STDOUT, "errors": "replace"}
+    ran = subprocess.run([*QUICK_RT, "check"], cwd=CRATES / crate, **how)
+    return not ran.returncode and not refusal(ran.stdout, None)
+
+
 def main():
     parser = argparse.ArgumentParser(description=__doc__.split("\n")[0])
     parser.add_argument("crates", nargs="*")
     parser.add_argument("--since", metavar="COMMIT")
     parser.add_argument("--left", action="store_true", help="the edits that weren't refused yet with these sources")
-    parser.add_argument("--folder", default="planted")
+    parser.add_argument("--check", action="store_true", help="whether each edit applies; none is tried")
     parser.add_argument("--lanes", type=int, default=max(1, (os.cpu_count() or 1) // 2), help="rounds side by side, of up to 4 GB each")
-    parser.add_argument("--at-most", type=int, default=24, metavar="N", help="edits of a round")
-    given = parser.parse_args()
-    below = crates_below()
+    given, below = parser.parse_args(), crates_below()
     if unknown := {*given.crates} - {*below}:
         parser.error(f"no such crate: {' '.join(sorted(unknown))}")
     names = given.crates or (changed_since(given.since, below) if given.since else list(below))
-    rounds, bad, sums, before = [], [], sums_of(below), refused_before() if given.left else {}
-    is_left = lambda it: before.get(f"{it.crate}/{it.name}", [None])[0] != edit_sum(it, sums)
+    if given.check:
+        count, found = faults(names)
+        print(*found, f"{count} edits, {len(found)} faults", sep="\n")
+        return int(bool(found))
+    LEDGER.parent.mkdir(exist_ok=True)
+    rounds, bad, sums, before = [], [], sums_of(below), known() if given.left else {}
+    is_left = lambda it: before.get(f"{it.crate}/{it.name}", ("", ""))[1] != edit_sum(it, sums) or "LET THROUGH" in before[f"{it.crate}/{it.name}"][0]
     for crate in names:
-        read = [read_edit(crate, it) for it in sorted((ROOT / "crates" / crate / given.folder).glob("*.edit"))]
+        read = [read_edit(crate, it) for it in sorted((CRATES / crate / "planted").glob("*.edit"))]
         bad += [(edit, None, why) for edit, why in read if why]
-        read = [it for it in read if is_left(it[0])]
-        if not read:
-            continue
-        print(f"{crate}: {len(read)} edits", flush=True)
-        how = {"stdin": subprocess.DEVNULL, "stdout": subprocess.PIPE, "stderr": subprocess.STDOUT, "errors": "replace"}
-        ran = subprocess.run([*QUICK_RT, "check"], cwd=ROOT / "crates" / crate, **how)
-        # also what judges the edits has to see no refusal there
-        if ran.returncode or refusal(ran.stdout, None):
-            print(f"{crate} isn't proved without an edit: see rt check in its folder", file=sys.stderr)
-            return 2
-        rounds += [(crate, it) for it in rounds_of([edit for edit, why in read if not why], given.at_most)]
+        edits = [edit for edit, why in read if not why and is_left(edit)]
+        if edits:
+            print(f"{crate}: {len(edits)} edits", flush=True)
+            if not is_proved(crate):
+                print(f"{crate} isn't proved without an edit: see rt check in its folder", file=sys.stderr)
+                return 2
+            rounds += [(crate, it) for it in rounds_of(edits)]
+    note(bad, sums)
     with ThreadPoolExecutor(given.lanes) as lanes:
         results = sum(lanes.map(lambda it: attack(it[0], below, it[1], sums), rounds), bad)
     through = [(edit, why) for edit, how, why in results if how is None]

@@ -1,10 +1,13 @@
 """Proves the libraries that a program uses, side by side where they don't use each other, and says on standard error how far it is.
 
-    python3 bench/prove.py [CRATE]
+    python3 tools/prove.py [CRATE]
 
 Only libraries that were never built, or are older than a source of theirs or of one that they use, are proved here, as many at once as there are
 processors and memory. `rt run`, which comes next, looks at all of them again. `rt` locks a crate with all that it uses, so each is proved in a
 copy, and what it made is taken over. What the prover says is in out/build/.
+
+It reaches into the kit: the time of a crate's out/rlib/stamp is when rt built its library. It would be unnecessary if `rt run` proved the libraries
+that it needs side by side, and said how far it is.
 """
 
 import os

@@ -1,6 +1,6 @@
 """Lists the calls that crates offer to others, with the clauses of their contracts that say what holds where they fail.
 
-    python3 bench/public_calls.py [--missing] [CRATE..]
+    python3 tools/public_calls.py [--missing] [CRATE..]
 
 Of a call that can fail three things have to be said: which number a refusal has, that the input has its fault, and that what it was lent to change is then
 as it was. The table has a line for each call: what it may answer (`memory`, or the type of its error; nothing where it can't fail), and the names of the
@@ -222,6 +222,10 @@ class Crate:
         return call.owner in types or is_foreign
 
 
+def title(call):
+    return f"{call.owner}::{call.name}" if call.owner else call.name
+
+
 # ---- what is said of a failure
 
 
@@ -310,7 +314,7 @@ class Row:
     """What the contract of a call says of its failures."""
 
     def __init__(self, contracts, call):
-        self.title = f"{call.owner}::{call.name}" if call.owner else call.name
+        self.title = title(call)
         if call.trait and call.trait != call.owner:
             self.title += f" ({call.trait})"
         clauses = contracts.clauses(call)

@@ -1,9 +1,9 @@
 #!/usr/bin/env python3
 """Measures `roombox adapt` on what calendar programs write of each zone: the table of docs/DOORS.md.
 
-    python3 bench/doors.py bin/roombox FOLDER [ZONES]
+    python3 docs/tables/doors.py bin/roombox FOLDER [ZONES]
 
-FOLDER has a file NAME.zones for each producer, which the programs of bench/doors/ write: records ended by an octet 0, each a line with the zone's name
+FOLDER has a file NAME.zones for each producer, which the programs of docs/tables/producers/ write: records ended by an octet 0, each a line with the zone's name
 and its VTIMEZONE. A record's first line may begin with `single`, `endless` or `moved`, where the VTIMEZONE is for that meeting alone. NAME.objects has
 whole objects in the same form. The meeting is of 15 April 2025 at 09:00: a single, one that is repeated each week for ever, and an instance moved to
 11:00. A row a producer: how many objects a room reads as they are, and how many after `adapt`, without ZONES and with it; then the zones that stay
