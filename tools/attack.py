@@ -1,7 +1,8 @@
 """Tries planted edits: wrong programs, one small change each, that the prover must refuse.
 
     python3 tools/attack.py [CRATE ..] [--since COMMIT] [--left] [--lanes N]
-    python3 tools/attack.py --check      tries none: each edit has to apply, no two make the same program, and there are at most 500
+    python3 tools/attack.py --check      tries none: each edit has to apply, those that ATTACKS names have to be there, no two may make the
+                                         same program, and there are at most 500
 
 With no crate: all that have a folder planted/. --since takes the crates that changed since a commit, and those above them. The verdict of each
 edit goes into out/attack.tsv, as soon as it is known: its crate and name, the verdict, and a sum of its text and of the sources, definitions and
@@ -52,7 +53,7 @@ OF_A_LEMMA = re.compile(r"depends? on `([^`]+)`, which was (?:not admitted|rejec
 # the lemmas that weren't looked at for that reason
 NOT_CHECKED = re.compile(r"^\S+: error: (\d+ declarations? that depends? on `[^`]+`, .*) not checked: (.*)$", re.MULTILINE)
 
-LEDGER = ROOT / "out" / "attack.tsv"
+LEDGER, PAGE = ROOT / "out" / "attack.tsv", ROOT / "docs" / "ATTACKS.md"
 # edits of a round, and in all
 MOST, MOST_IN_ALL = 24, 500
 
@@ -324,6 +325,9 @@ def faults(names):
             wrong = "" if other == path else f"the same program as that of {other.relative_to(CRATES)}"
         if wrong:
             found.append(f"{path.relative_to(CRATES)}: {wrong}")
+    named = PAGE.read_text(encoding="utf-8").partition("\n## Wrong bodies that have a name\n")[2].partition("\n## ")[0]
+    for crate, edits in re.findall(r"(\w+): ((?:`\w+`(?:, )?)+)", named):
+        found += [f"{crate}/{it} isn't there, which {PAGE.name} names" for it in re.findall(r"\w+", edits) if not list((CRATES / crate).glob(f"*/{it}.edit"))]
     return len(paths), found + ([f"there are {len(paths)} edits, and not {MOST_IN_ALL} at most"] if len(paths) > MOST_IN_ALL else [])
 
 
