@@ -16,7 +16,8 @@ import time
 from datetime import timedelta
 from pathlib import Path
 
-from bench import FIRST, REQUEST, ROOM, crlf, run
+from runs import run
+from texts import FIRST, REQUEST, ROOM, crlf
 
 ROOMS, FILES = 20, 100_000
 MEMORY = Path("/dev/shm")
@@ -123,10 +124,10 @@ class Boxes:
 
     def seconds(self, program):
         """Of a run, and its peak."""
-        seconds, peak, status, output = run(self.words(program), subprocess.DEVNULL)
-        if (status, output) != (0, b""):
-            sys.exit(f"box: status {status}, {output!r}")
-        return seconds, peak
+        ran = run(self.words(program))
+        if (ran.status, ran.output) != (0, b""):
+            sys.exit(f"box: status {ran.status}, {ran.output!r}")
+        return ran.seconds, ran.peak
 
     def looked_at(self):
         """Sees that nine of ten are accepted, and the others declined; the mean length of an answer."""
