@@ -5,6 +5,8 @@
 A function's time is the prover's processor time since the progress line before its own: it holds the lemma files that are first cited there. The
 time up to the first function, which loads the libraries, is the crate's row `start`. The crates' libraries must be built (`make run`); each crate's
 own proofs are made anew, in a copy.
+
+It reaches into the kit: it finds the prover among the processes by its name `rattle`. It would be unnecessary if `rt check` said what each function took.
 """
 
 import argparse
