@@ -65,6 +65,8 @@ pub fn run_keep<R: Input, W: Output, E: Output>(
         (record { input = R.remaining reader.old; left = R.remaining reader.new; output = W.contents writer.old; written = W.contents writer.new }) }
     ensures cut { result ≡ 4 → Keeps (W.contents writer.old) (W.contents writer.new) ⊎ CutsKept kept (address_octets room.now)
         (record { input = R.remaining reader.old; left = R.remaining reader.new; output = W.contents writer.old; written = W.contents writer.new }) }
+    ensures taken { result ≡ 0 → ForTaken R.takes R.lent R.has_ended reader.old reader.new (λ input left. WritesKept kept (address_octets room.now)
+        (record { input = input; left = left; output = W.contents writer.old; written = W.contents writer.new })) }
 {
     match keep_stream(alloc, room, reader) {
         Ok((calendar, certificate)) => {
@@ -89,6 +91,7 @@ fn keep_stream<R: Input>(
     ensures told { IfErr result (StreamKeepsButRead (R.has_failed reader.old) (R.has_failed reader.new)) }
     ensures none { IfErr result (KeepsNone (R.remaining reader.old) (R.remaining reader.new) (address_octets room.now)) }
     ensures keeps { IfOk result (λ kept. KeepsBoth (R.remaining reader.old) (R.remaining reader.new) (address_octets room.now) kept.0.items kept.1.items) }
+    ensures taken { IfOk result (λ kept. ForTaken R.takes R.lent R.has_ended reader.old reader.new (λ input left. KeepsBoth input left (address_octets room.now) kept.0.items kept.1.items)) }
 {
     let (config, now) = read_preamble(alloc, reader)?;
     keep(alloc, &config, reader, now, room)
