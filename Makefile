@@ -12,7 +12,7 @@ MAN_PAGE = $(BELOW)/share/man/man1/roombox.1
 COMPLETION = $(BELOW)/share/bash-completion/completions/roombox
 # README, what it leads to, and the examples, with the same folders between them
 DOCUMENTS = $(BELOW)/share/doc/roombox
-DOCUMENT_FILES := README.md CHANGELOG.md $(wildcard docs/*.* docs/*/*.* examples/*.* examples/*/*.*)
+DOCUMENT_FILES := README.md CHANGELOG.md $(wildcard docs/*.* docs/pictures/*.* examples/*.* examples/*/*.*)
 
 .PHONY: try run test attack bench fuzz man layout tables install uninstall deb clean
 
@@ -27,7 +27,7 @@ run: bin/roombox
 
 bin/roombox: FORCE
 	@mkdir -p bin out
-	@RT=$(RT) python3 bench/prove.py roombox
+	@RT=$(RT) python3 tools/prove.py roombox
 	@cd crates/roombox && $(RT) run < ../../$(EXAMPLE) > ../../out/first-reply 2>> ../../out/build.log \
 		|| { cat ../../out/build.log; exit 1; }
 	@cp crates/roombox/out/roombox bin/roombox
@@ -38,18 +38,19 @@ FORCE:
 test:
 	$(RT) ci
 
-# The tables of the documents that scripts make from the sources; with CHECK=--check they are only compared. Then how many lines people wrote.
+# The tables of the documents that scripts make from the sources; with CHECK=--check they are only compared.
 tables:
-	@status=0; for script in crates_table crates_picture attacks_table contracts_table definitions_tables vocabulary premises gate_figures user_tables; do \
-		[ ! -f bench/$$script.py ] || python3 bench/$$script.py $(CHECK) || status=1; done; python3 bench/document_lines.py || status=1; exit $$status
+	@status=0; for script in crates contracts definitions vocabulary premises users; do \
+		python3 docs/tables/$$script.py $(CHECK) || status=1; done; exit $$status
 
 # Lays out each crate as the gate wants it: a file that isn't stops its crate and all above it.
 layout:
 	@for crate in crates/*/; do (cd $$crate && $(RT) fmt) || exit 1; done
 
-# The planted edits that the gate doesn't try, in rounds: all, those of CRATE, or those of the crates that changed since a commit (SINCE).
+# The planted edits that the gate doesn't try, in rounds: all, those of CRATE, or those of the crates that changed since a commit (SINCE). All take a
+# night of two processors. out/attack.tsv has the verdict of each; with LEFT=1 what is refused there with the same sources isn't tried again.
 attack:
-	@RT=$(RT) python3 bench/attack.py $(CRATE) $(if $(SINCE),--since $(SINCE))
+	@RT=$(RT) python3 tools/attack.py $(CRATE) $(if $(SINCE),--since $(SINCE)) $(if $(LEFT),--left)
 
 # The worked examples of texts, of which bench takes the jumps in the days of rules.
 bin/text_examples: bin/roombox FORCE
@@ -85,8 +86,8 @@ fuzz: bin/roombox
 
 # The man page and the bash completion, docs/roombox.1 and docs/roombox.bash, from the program's help; and the table of numbers in docs/REFERENCE.md.
 man: bin/roombox
-	python3 bench/man_page.py bin/roombox docs
-	python3 bench/user_tables.py
+	python3 docs/tables/man_page.py bin/roombox docs
+	python3 docs/tables/users.py
 
 # The program that `make run` has built, its man page, its completion in bash, its documents and its examples. It builds nothing: so it can be run by root.
 install:

@@ -10,41 +10,20 @@ With --large the last table has streams and a calendar of 1 GB (bench/hostile.py
 import os
 import random
 import re
-import subprocess
 import sys
 import tempfile
-import time
 from datetime import datetime, timedelta
 
-ROOM = "mailto:r{}@example.com"
+from boxes import boxes
+from groups import groups
+from hostile import hostile_sizes
+from residues import residues
+from runs import LISTED, SENT, checked, fed, in_new_york, in_utc, least, run, serve, with_files
+from schedules import schedules
+from spans import spans
+from texts import EVENT, FIRST, IN_NEW_YORK, NEW_YORK, REQUEST, ROOM, SERIES, certificate_of, crlf, preamble, recurring, rule_of_lists, stamp
+
 NEW_YORK_WORDS = "-0500 -0400 11 1SU 0200 3 2SU 0200"
-ACCEPTED, SENT = b"PARTSTAT=ACCEPTED", b"METHOD:REQUEST"
-FIRST = datetime(2025, 1, 6)
-REQUEST = """BEGIN:VCALENDAR
-VERSION:2.0
-PRODID:-//bench//EN
-METHOD:REQUEST
-BEGIN:VEVENT
-UID:meeting-{number}@example.com
-SEQUENCE:0
-DTSTAMP:20250101T000000Z
-ORGANIZER:mailto:ann@example.com
-ATTENDEE:{room}
-DTSTART:{start}
-DURATION:PT1H
-{extra}END:VEVENT
-END:VCALENDAR
-"""
-EVENT = """BEGIN:VEVENT
-UID:meeting-{number}@example.com
-SEQUENCE:0
-DTSTAMP:20250101T000000Z
-DTSTART:{start}
-DURATION:PT3600S
-ORGANIZER:mailto:ann@example.com
-ATTENDEE;PARTSTAT=ACCEPTED:{room}
-END:VEVENT
-"""
 # A meeting of DAYS days in a row, of half an hour each: EXDATE takes one away, and an override moves another.
 DAYS = 12
 LISTED_DAYS = EVENT.replace("DURATION:PT3600S", "RDATE:{others}\nEXDATE:{excepted}\nDURATION:PT1800S") + EVENT.replace(
@@ -72,19 +51,6 @@ UID:zoned@example.com
 DURATION:PT1H
 END:VEVENT
 """
-SERIES = """BEGIN:VCALENDAR
-VERSION:2.0
-PRODID:-//bench//EN
-BEGIN:VEVENT
-UID:series@example.com
-DTSTAMP:20250101T000000Z
-ORGANIZER:mailto:ann@example.com
-DTSTART:{start}
-DURATION:PT1H
-RRULE:{rule}
-END:VEVENT
-END:VCALENDAR
-"""
 ENDLESS = """BEGIN:VEVENT
 UID:series-{number}@example.com
 DTSTAMP:20250101T000000Z
@@ -95,23 +61,6 @@ DURATION:PT1H
 RRULE:{rule}
 END:VEVENT
 """
-NEW_YORK = """BEGIN:VTIMEZONE
-TZID:America/New_York
-BEGIN:STANDARD
-DTSTART:20071104T020000
-RRULE:FREQ=YEARLY;BYMONTH=11;BYDAY=1SU
-TZOFFSETFROM:-0400
-TZOFFSETTO:-0500
-END:STANDARD
-BEGIN:DAYLIGHT
-DTSTART:20070311T020000
-RRULE:FREQ=YEARLY;BYMONTH=3;BYDAY=2SU
-TZOFFSETFROM:-0500
-TZOFFSETTO:-0400
-END:DAYLIGHT
-END:VTIMEZONE
-"""
-IN_NEW_YORK = SERIES.replace("DTSTART:", "DTSTART;TZID=America/New_York:").replace("BEGIN:VEVENT", NEW_YORK + "BEGIN:VEVENT")
 # The most RDATEs, EXDATEs and overrides of an event in a message.
 MOST_DATES, MOST_OVERRIDES = 366, 199
 # Instants in 2026 and in 9000 that instances are looked for from.
@@ -134,14 +83,6 @@ SEEKS = (
 )
 NEAR, FAR = "19710101", "90000101"
 TIMES = 100_000
-# Values of each list of a rule. A list of any length goes round in them, so that its days are the same.
-LISTS = (
-    ("BYMONTH", range(1, 13)),
-    ("BYMONTHDAY", range(1, 32)),
-    ("BYDAY", ("MO", "TU", "WE", "TH", "FR", "SA", "SU")),
-    ("BYSETPOS", range(1, 37)),
-)
-LISTED = 95_000
 # Events that an overlap is looked for in.
 EVENTS = 2_000
 # The meetings of a room that are revised: an even number, below the limit of a room.
@@ -150,24 +91,8 @@ MEETINGS = 9_000
 REVISIONS = 1_000
 # Endless series of a room beside which another one is revised.
 ENDLESS_ONES = 60
-# How often a hostile object or line occurs in a run, so that the program's own start counts for little.
-HOSTILE = 20
-
-
-def stamp(number):
-    """The start of meeting `number`: each has an hour of its own."""
-    return (FIRST + timedelta(hours=number)).strftime("%Y%m%dT%H%M%SZ")
-
-
-def crlf(text):
-    return text.replace("\n", "\r\n").encode()
-
-
-def preamble(rooms, zone=None):
-    """So many rooms, each in this zone."""
-    lines = ["now 20250102T000000Z"] + ["room " + ROOM.format(room) for room in range(rooms)]
-    lines += [f"zone {ROOM.format(room)} {zone}" for room in range(rooms) if zone]
-    return ("\n".join(lines) + "\n\n").encode()
+# How often an event is listed, so that the program's own start counts for little.
+TURNS = 20
 
 
 def requests(count, rooms=1):
@@ -250,38 +175,6 @@ def large_objects(count):
         yield crlf(REQUEST.format(number=number, room=ROOM.format(0), start=stamp(number), extra=folded))
 
 
-def attendees(count):
-    """Requests to 64 rooms which others come before, so many lines in all. Four digits fit the octets of an object."""
-    lines = [f"ATTENDEE:m:{number:04x}\n" for number in range(count - 64)]
-    lines += [f"ATTENDEE:{ROOM.format(room)}\n" for room in range(63)]
-    yield preamble(64)
-    for number in range(HOSTILE):
-        yield crlf(REQUEST.format(number=number, room=ROOM.format(63), start=stamp(number), extra="".join(lines)))
-
-
-def folds(count):
-    """Requests with a line that is folded at each of so many octets."""
-    line = "DESCRIPTION:" + "x\n " * count + "\n"
-    yield preamble(1)
-    for number in range(HOSTILE):
-        yield crlf(REQUEST.format(number=number, room=ROOM.format(0), start=stamp(number), extra=line))
-
-
-def parameters(count):
-    """A calendar in which so many parameters are on the line of the room, before the one that is looked for."""
-    event = EVENT.replace("ATTENDEE", "ATTENDEE" + ";A=1" * (count - 1))
-    yield crlf("BEGIN:VCALENDAR\nVERSION:2.0\nPRODID:-//bench//EN\n")
-    for number in range(HOSTILE):
-        yield crlf(event.format(number=number, room=ROOM.format(0), start=stamp(number)))
-    yield crlf("END:VCALENDAR\n")
-
-
-def rule_of_lists(count):
-    """A rule of so many entries in each list. The days are always the first 36 of the year."""
-    parts = [f"{name}=" + ",".join(str(values[place % len(values)]) for place in range(count)) for name, values in LISTS]
-    return ";".join(["FREQ=YEARLY", *parts])
-
-
 def calendar(count):
     yield crlf("BEGIN:VCALENDAR\nVERSION:2.0\nPRODID:-//bench//EN\n")
     for number in range(count):
@@ -319,15 +212,6 @@ def beside_a_series(count):
         start = (datetime(2025, 1, 6, 12) + timedelta(days=number)).strftime("%Y%m%dT%H%M%SZ")
         yield crlf(EVENT.format(number=number, room=ROOM.format(0), start=start))
     yield crlf("END:VCALENDAR\n")
-
-
-def recurring(number, start, rule, sequence=0, zone=""):
-    """A request for a series, in UTC or in New York."""
-    request = REQUEST.replace("SEQUENCE:0", f"SEQUENCE:{sequence}").replace("BEGIN:VEVENT", zone + "BEGIN:VEVENT", 1)
-    if zone:
-        request = request.replace("DTSTART:{start}", "DTSTART;TZID=America/New_York:{start}")
-        start = start.removesuffix("Z")
-    return crlf(request.format(number=number, room=ROOM.format(0), start=start, extra=f"RRULE:{rule}\n"))
 
 
 def two_series(zone=""):
@@ -385,35 +269,12 @@ def replies(count, people):
             yield crlf(reply.format(number=number, room=ROOM.format(person), start=stamp(number), extra=""))
 
 
-def after(program, pieces, accepted, first, first_accepted, word=ACCEPTED):
+def after(program, pieces, accepted, first, first_accepted, **word):
     """The seconds that a stream takes beyond those of its first part: of each the least of three runs, since their difference may be small."""
     pieces, first = list(pieces), list(first)
-    whole, peak, size = min(serve(program, pieces, accepted, word) for _ in range(3))
-    part, _, _ = min(serve(program, first, first_accepted, word) for _ in range(3))
+    whole, peak, size = least(lambda: serve(program, pieces, accepted, **word), 3)
+    part, _, _ = least(lambda: serve(program, first, first_accepted, **word), 3)
     return max(whole - part, 1e-3), peak, size
-
-
-def run(words, stream, folder=None):
-    """Seconds, peak octets and output of one run, in a folder."""
-    with tempfile.TemporaryFile() as output:
-        begun = time.monotonic()
-        child = subprocess.Popen(words, stdin=stream, stdout=output, cwd=folder)
-        _, status, usage = os.wait4(child.pid, 0)
-        seconds = time.monotonic() - begun
-        child.returncode = os.waitstatus_to_exitcode(status)
-        output.seek(0)
-        return seconds, usage.ru_maxrss * 1024, child.returncode, output.read()
-
-
-def serve(program, pieces, accepted, word=ACCEPTED):
-    """Seconds, peak octets and the size of a stream, whose answers have the word so often and refuse nothing."""
-    with tempfile.TemporaryFile() as stream:
-        size = sum(stream.write(piece) for piece in pieces)
-        stream.seek(0)
-        seconds, peak, status, output = run([program, "serve"], stream)
-    if status != 0 or output.count(word) != accepted or b"REFUSED" in output:
-        sys.exit(f"serve: status {status}, {output.count(word)} times {word} in place of {accepted}")
-    return seconds, peak, size
 
 
 HISTORY = """BEGIN:VTIMEZONE
@@ -471,68 +332,24 @@ def names_of_zones(count):
 
 def adapt(program, pieces, most):
     """Seconds, peak octets and the size of objects that the door makes readable, none of which has history then."""
-    with tempfile.TemporaryFile() as stream:
-        size = sum(stream.write(piece) for piece in pieces)
-        stream.seek(0)
-        seconds, peak, status, output = run([program, "adapt"], stream)
-    if status != 0 or output.count(b"BEGIN:STANDARD") > most:
-        sys.exit(f"adapt: status {status}, {output.count(b'BEGIN:STANDARD')} parts")
-    return seconds, peak, size
-
-
-def certificate_of(singles, series):
-    """The certificate of a calendar of so many singles and series."""
-    pairs = "".join(f"PAIR {i} {j} END\n" for i in range(1, series + 1) for j in range(i, series + 1))
-    return f"ROOMCERT 1\nSINGLES {singles}\nSERIES {series}\n{pairs}DONE\n"
+    ran, size = fed([program, "adapt"], pieces)
+    if ran.status != 0 or ran.output.count(b"BEGIN:STANDARD") > most:
+        sys.exit(f"adapt: status {ran.status}, {ran.output.count(b'BEGIN:STANDARD')} parts")
+    return ran.seconds, ran.peak, size
 
 
 def check(program, pieces, singles, series=0):
     """The checker's yes to a calendar of so many singles and series."""
-    with tempfile.TemporaryDirectory() as folder:
-        kept, certificate = os.path.join(folder, "kept.ics"), os.path.join(folder, "kept.cert")
-        with open(kept, "wb") as file:
-            size = sum(file.write(piece) for piece in pieces)
-        with open(certificate, "w", encoding="ascii") as file:
-            file.write(certificate_of(singles, series))
-        seconds, peak, status, output = run([program, "check", kept, certificate, ROOM.format(0)], None)
-    if (status, output) != (0, b"yes\n"):
-        sys.exit(f"check: status {status}, {output!r}")
-    return seconds, peak, size
+    return checked(program, pieces, certificate_of(singles, series).encode())
 
 
 def agenda(program, pieces, first, until, lines):
     """So many lines of what a calendar confirms from a day on and before another."""
-    with tempfile.TemporaryDirectory() as folder:
-        kept = os.path.join(folder, "kept.ics")
-        with open(kept, "wb") as file:
-            size = sum(file.write(piece) for piece in pieces)
-        words = [program, "agenda", kept, ROOM.format(0), "--from", f"{first:%Y%m%d}T000000Z", "--until", f"{until:%Y%m%d}T000000Z"]
-        seconds, peak, status, output = run(words, None)
-    if status or output.count(b"\n") != lines:
-        sys.exit(f"agenda: status {status}, {output.count(bytes([10]))} lines")
-    return seconds, peak, size
-
-
-def expand(program, series, first, count):
-    """The first instances of a series, of which the first is known."""
-    with tempfile.TemporaryFile() as stream:
-        stream.write(crlf(series))
-        stream.seek(0)
-        seconds, peak, status, output = run([program, "expand", "--limit", str(count)], stream)
-    lines = output.count(b"\n")
-    if status != 0 or lines != count or not output.startswith(f"{first} {first} 3600\n".encode()):
-        sys.exit(f"expand: status {status}, {lines} lines of {count}, {output[:40]}")
-    return seconds, peak
-
-
-def in_utc(program, start, rule, count):
-    """The first instances of a series in UTC."""
-    return expand(program, SERIES.format(start=start, rule=rule), start, count)
-
-
-def in_new_york(program, count):
-    """The first instances of a daily series in New York. Before the first onset the clocks show what that ends."""
-    return expand(program, IN_NEW_YORK.format(start="19700101T090000", rule="FREQ=DAILY"), "19700101T140000Z", count)
+    span = ["--from", f"{first:%Y%m%d}T000000Z", "--until", f"{until:%Y%m%d}T000000Z"]
+    ran, size = with_files([program, "agenda", ROOM.format(0), *span], pieces)
+    if ran.status or ran.output.count(b"\n") != lines:
+        sys.exit(f"agenda: status {ran.status}, {ran.output.count(bytes([10]))} lines")
+    return ran.seconds, ran.peak, size
 
 
 def series_with_exceptions(dates):
@@ -552,17 +369,11 @@ def series_with_exceptions(dates):
 
 def all_instances(program, series, count):
     """All instances of an event, of which there are so many, run a few times."""
-    seconds, peak = 0.0, 0
-    with tempfile.TemporaryFile() as stream:
-        stream.write(crlf(series))
-        for _ in range(HOSTILE):
-            stream.seek(0)
-            taken, most, status, output = run([program, "expand", "--limit", str(count + 1)], stream)
-            lines = output.count(b"\n")
-            if status != 0 or lines != count:
-                sys.exit(f"expand: status {status}, {lines} lines of {count}, {output[:60]}")
-            seconds, peak = seconds + taken, max(peak, most)
-    return seconds, peak
+    found = [fed([program, "expand", "--limit", str(count + 1)], [crlf(series)])[0] for _ in range(TURNS)]
+    for ran in found:
+        if ran.status != 0 or ran.output.count(b"\n") != count:
+            sys.exit(f"expand: status {ran.status}, {ran.output[:60]} in place of {count} lines")
+    return sum(ran.seconds for ran in found), max(ran.peak for ran in found)
 
 
 def overlaps(program, instant):
@@ -574,10 +385,10 @@ def overlaps(program, instant):
             open(os.path.join(folder, table), "w", encoding="ascii").close()
         with open(os.path.join(folder, "events.txt"), "w", encoding="ascii") as file:
             file.writelines(f"{number} | text | {text} | {asked}\n" for number in range(EVENTS))
-        seconds, peak, status, output = run([os.path.abspath(program)], None, folder)
-    if status != 0 or output.count(b"\n") != EVENTS or b"none" in output:
-        sys.exit(f"overlaps: status {status}, {output[:80]}")
-    return seconds, peak
+        ran = run([os.path.abspath(program)], folder=folder)
+    if ran.status != 0 or ran.output.count(b"\n") != EVENTS or b"none" in ran.output:
+        sys.exit(f"overlaps: status {ran.status}, {ran.output[:80]}")
+    return ran.seconds, ran.peak
 
 
 def zoned(count):
@@ -589,13 +400,10 @@ def zoned(count):
 
 def seek(program, start, rule, target):
     """The seconds of many jumps from a rule's first day to a day, without those of the program itself."""
-    with tempfile.TemporaryFile() as stream:
-        stream.write(f"jumps | seek | {rule} | {start} | 99991231 | {target} | {TIMES}\n".encode())
-        stream.seek(0)
-        seconds, peak, status, output = run([program, "seeks"], stream)
-    if status != 0 or not re.fullmatch(rb"jumps: \d{8}\n", output):
-        sys.exit(f"seek: status {status}, {output!r} for {rule}")
-    return seconds, peak
+    ran, _ = fed([program, "seeks"], [f"jumps | seek | {rule} | {start} | 99991231 | {target} | {TIMES}\n".encode()])
+    if ran.status != 0 or not re.fullmatch(rb"jumps: \d{8}\n", ran.output):
+        sys.exit(f"seek: status {ran.status}, {ran.output!r} for {rule}")
+    return ran.seconds, ran.peak
 
 
 def seeks(program):
@@ -610,16 +418,10 @@ def seeks(program):
 
 def quickly(program, calendar_text, certificate_text):
     """Input that is no calendar, or no certificate: an answer of `no`."""
-    with tempfile.TemporaryDirectory() as folder:
-        kept, certificate = os.path.join(folder, "kept.ics"), os.path.join(folder, "kept.cert")
-        with open(kept, "wb") as file:
-            file.write(calendar_text)
-        with open(certificate, "wb") as file:
-            file.write(certificate_text)
-        seconds, peak, status, output = run([program, "check", kept, certificate, ROOM.format(0)], None)
-    if status != 1 or not output.startswith(b"no "):
-        sys.exit(f"check: status {status}, {output!r}")
-    return seconds, peak, len(calendar_text) + len(certificate_text)
+    ran, size = with_files([program, "check", ROOM.format(0)], [calendar_text], [certificate_text])
+    if ran.status != 1 or not ran.output.startswith(b"no "):
+        sys.exit(f"check: status {ran.status}, {ran.output!r}")
+    return ran.seconds, ran.peak, size
 
 
 def line(work, count, seconds, rate, peak, growth=""):
@@ -634,16 +436,6 @@ def grown(work, sizes, measure, rate):
         done = f"{octets[0] / seconds / 1e6:.0f} MB/s" if rate == "octets" else f"{int((rate or size) / seconds)}/s"
         line(work, size, seconds, done, peak, f"{seconds / before:.1f}" if before else "")
         before = seconds
-
-
-def hostile(program):
-    """Objects and rules of a form that no one sends in earnest, as large as the limits let them be. Their size is of one object, line or list."""
-    asked = 64 * HOSTILE
-    grown("attendees of an object to 64 rooms", (6_000, 60_000), lambda count: serve(program, attendees(count), asked), "octets")
-    grown("octets of a line folded at each", (26_000, 260_000), lambda count: serve(program, folds(count), HOSTILE), "octets")
-    grown("parameters of a line", (6_500, 65_000), lambda count: check(program, parameters(count), HOSTILE), "octets")
-    listed = lambda count: in_utc(program, "19700101T090000Z", rule_of_lists(count), LISTED)
-    grown("entries in each list of a rule", (36, 366), listed, LISTED)
 
 
 def main():
@@ -668,12 +460,12 @@ def main():
     grown("a third cancels, a third revisions, a third repeats", (10_000, 100_000), changed, None)
     revised = lambda count: serve(program, overridden(count), count + 1 + REVISIONS)
     grown("overrides, one revised 1,000 times", (MOST_OVERRIDES // 10, MOST_OVERRIDES), revised, REVISIONS)
-    grown("stores of one organiser", (1_000, 10_000), lambda count: serve(program, stores(count), count, SENT), None)
-    replied = lambda count: after(program, replies(count, 1), count, stores(count), count, SENT)
+    grown("stores of one organiser", (1_000, 10_000), lambda count: serve(program, stores(count), count, word=SENT), None)
+    replied = lambda count: after(program, replies(count, 1), count, stores(count), count, word=SENT)
     grown("replies to them", (1_000, 10_000), replied, None)
-    replied = lambda count: after(program, replies(1, count), 1, stores(1, count), 1, SENT)
+    replied = lambda count: after(program, replies(1, count), 1, stores(1, count), 1, word=SENT)
     grown("replies of as many people to one store", (1_000, 10_000), replied, None)
-    grown("people of one store", (2_500, 25_000), lambda count: serve(program, stores(1, count), 1, SENT), None)
+    grown("people of one store", (2_500, 25_000), lambda count: serve(program, stores(1, count), 1, word=SENT), None)
     grown("objects of 1 MB with folded lines", (20,), lambda count: serve(program, large_objects(count), count), "octets")
     grown("singles checked", (100_000, 1_000_000), lambda count: check(program, calendar(count), count), "octets")
     days = lambda count: check(program, calendar_of_days(count), count * (DAYS - 1))
@@ -698,7 +490,8 @@ def main():
     line("first overlap in 9000 against 2026", EVENTS, late, f"{int(EVENTS / late)}/s", peak, f"{late / soon:.1f}")
     grown("VEVENTs of an event, a zone each", (20, 200), lambda count: all_instances(program, *zoned(count)), None)
     seeks(sys.argv[2])
-    hostile(program)
+    listed = lambda count: in_utc(program, "19700101T090000Z", rule_of_lists(count), LISTED)
+    grown("entries in each list of a rule", (36, 366), listed, LISTED)
     empty = b"BEGIN:VCALENDAR\r\nVERSION:2.0\r\nEND:VCALENDAR\r\n"
     odd = (
         ("a calendar of 0 octets", b"", b""),
@@ -709,14 +502,6 @@ def main():
     for work, calendar_text, certificate_text in odd:
         seconds, peak, size = quickly(program, calendar_text, certificate_text)
         line(work, 1, seconds, f"{size / seconds / 1e6:.0f} MB/s", peak)
-    # their own modules use this one
-    from boxes import boxes
-    from groups import groups
-    from hostile import hostile_sizes
-    from residues import residues
-    from schedules import schedules
-    from spans import spans
-
     spans(program, sys.argv[3])
     residues(program)
     groups(program)

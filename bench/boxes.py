@@ -16,7 +16,8 @@ import time
 from datetime import timedelta
 from pathlib import Path
 
-from bench import FIRST, REQUEST, ROOM, crlf, run
+from runs import run
+from texts import FIRST, REQUEST, ROOM, crlf
 
 ROOMS, FILES = 20, 100_000
 MEMORY = Path("/dev/shm")
@@ -25,75 +26,6 @@ BAR, GROWTH, BESIDE_LOOP, AGAIN = 15, 12, 1.3, 0.2
 # On a disk where they would take longer than so many seconds, a tenth of the files is enough.
 LONGEST = 60
 TRACED = 1_000
-
-LOOP = r"""
-#define _GNU_SOURCE
-#include <dirent.h>
-#include <fcntl.h>
-#include <stdio.h>
-#include <stdlib.h>
-#include <string.h>
-#include <sys/stat.h>
-#include <unistd.h>
-
-static char *names[1 << 20];
-static char octets[8192];
-
-static void must(int holds, const char *call) {
-    if (!holds) {
-        perror(call);
-        exit(1);
-    }
-}
-
-static int compared(const void *one, const void *other) {
-    return strcmp(*(char *const *)one, *(char *const *)other);
-}
-
-static int listed(const char *folder) {
-    int count = 0;
-    struct dirent *entry;
-    DIR *open = opendir(folder);
-    must(open != NULL, "opendir");
-    while ((entry = readdir(open)) != NULL)
-        if (entry->d_name[0] != '.')
-            names[count++] = strdup(entry->d_name);
-    closedir(open);
-    return count;
-}
-
-/* LOOP INBOX OUTBOX LENGTH: for each file of the inbox one of so many octets in the outbox */
-int main(int count, char **words) {
-    char from[4096], to[4096], temporary[4096];
-    size_t length = (size_t)atol(words[3]);
-    snprintf(temporary, sizeof temporary, "%s/.temporary", words[2]);
-    int folder = open(words[2], O_RDONLY);
-    must(folder >= 0 && fsync(folder) == 0, "fsync of the folder");
-    int files = listed(words[1]);
-    qsort(names, (size_t)files, sizeof *names, compared);
-    for (int number = 0; number < files; number++) {
-        struct stat found;
-        snprintf(from, sizeof from, "%s/%s", words[1], names[number]);
-        must(stat(from, &found) == 0, "stat");
-        int message = open(from, O_RDONLY);
-        must(message >= 0, "open");
-        while (read(message, octets, sizeof octets) > 0)
-            ;
-        close(message);
-        unlink(temporary);
-        int answer = open(temporary, O_RDWR | O_CREAT | O_EXCL, 0666);
-        must(answer >= 0, "create");
-        must(write(answer, octets, length) == (ssize_t)length, "write");
-        must(fsync(answer) == 0, "fsync");
-        snprintf(to, sizeof to, "%s/%.25s.out", words[2], names[number]);
-        must(link(temporary, to) == 0, "link");
-        must(unlink(temporary) == 0, "unlink");
-        close(answer);
-        must(fsync(folder) == 0, "fsync of the folder");
-    }
-    return count != 4;
-}
-"""
 
 
 def request(number):
@@ -123,10 +55,10 @@ class Boxes:
 
     def seconds(self, program):
         """Of a run, and its peak."""
-        seconds, peak, status, output = run(self.words(program), subprocess.DEVNULL)
-        if (status, output) != (0, b""):
-            sys.exit(f"box: status {status}, {output!r}")
-        return seconds, peak
+        ran = run(self.words(program))
+        if (ran.status, ran.output) != (0, b""):
+            sys.exit(f"box: status {ran.status}, {ran.output!r}")
+        return ran.seconds, ran.peak
 
     def looked_at(self):
         """Sees that nine of ten are accepted, and the others declined; the mean length of an answer."""
@@ -146,9 +78,8 @@ def built(folder):
     """The bare loop, if there is a compiler."""
     if not shutil.which("gcc"):
         return None
-    source, loop = Path(folder, "loop.c"), Path(folder, "loop")
-    source.write_text(LOOP)
-    subprocess.run(["gcc", "-O2", "-o", str(loop), str(source)], check=True)
+    loop = Path(folder, "loop")
+    subprocess.run(["gcc", "-O2", "-o", str(loop), str(Path(__file__).with_name("loop.c"))], check=True)
     return str(loop)
 
 

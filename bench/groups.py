@@ -6,8 +6,8 @@ import re
 import sys
 from pathlib import Path
 
-from bench import NEW_YORK, ROOM, in_new_york, recurring
-from spans import FAST, LISTED, checked, in_paris, kept, least
+from runs import checked, kept, least, share_of_fast
+from texts import NEW_YORK, ROOM, in_paris, recurring
 
 sys.path.insert(0, str(Path(__file__).resolve().parent.parent / "tests"))
 from certificate_by_dateutil import Calendar
@@ -38,13 +38,13 @@ def by_pairs(calendar):
 
 
 def groups(program):
-    share = LISTED / in_new_york(program, LISTED)[0] / FAST
+    share = share_of_fast(program)
     requests = series()
     calendar, certificate = kept(program, requests)[1], kept(program, requests, "--certificate")[1]
     if not re.fullmatch(rb"ROOMCERT 2\nSINGLES 0\nSERIES 64\nGROUP \d{8}T000000Z 146097( \d+){64}\nDONE\n", certificate):
         sys.exit(f"no group of all: {certificate!r}")
-    grouped = least(lambda: checked(program, calendar, certificate))
-    paired = checked(program, calendar, by_pairs(calendar))
+    grouped = least(lambda: checked(program, [calendar], certificate)[0])
+    paired = checked(program, [calendar], by_pairs(calendar))[0]
     print(f"{'64 series that spans settle, checked':<46}{'ms':>8}{'of a fast machine':>19}{'bar':>6}{'by pairs, ms':>17}{'times':>9}")
     print(f"{'as one group':<46}{grouped * 1000:>8.1f}{grouped * share * 1000:>19.1f}{SECONDS * 1000:>6}{paired * 1000:>17.0f}{paired / grouped:>9.1f}")
     if paired < TIMES * grouped:

@@ -18,8 +18,9 @@ import tempfile
 from datetime import datetime, timedelta
 from pathlib import Path
 
-from bench import EVENT, FIRST, REQUEST, ROOM, certificate_of, crlf, preamble, stamp
 from residues import WEEK, request, settled_room
+from runs import kept
+from texts import EVENT, FIRST, REQUEST, ROOM, certificate_of, crlf, preamble, stamp
 
 # Of ten times the work, and how often a run is repeated where processor seconds are measured.
 BAR, RUNS = 12, 3
@@ -199,23 +200,14 @@ def yearly(count):
     return [preamble(1), *(request(number, None, day, "FREQ=YEARLY") for number, day in enumerate(days))]
 
 
-def kept(program, pieces):
-    """The calendar and the certificate that a room keeps."""
-    with tempfile.TemporaryFile() as stream:
-        stream.writelines(pieces)
-        for words in ([], ["--certificate"]):
-            stream.seek(0)
-            yield subprocess.run([program, "keep", *words, ROOM.format(0)], stdin=stream, capture_output=True, check=True).stdout
-
-
 def judged(calendar, certificate, status=0, output=rb"^yes\n$"):
     files = {"calendar": calendar, "certificate": certificate}
     return Run(["check", "calendar", "certificate", ROOM.format(0)], files=files, status=status, output=output)
 
 
 def judged_room(program, count):
-    calendar, certificate = kept(program, yearly(count))
-    return judged([calendar], [certificate])
+    requests = yearly(count)[1:]
+    return judged([kept(program, requests)[1]], [kept(program, requests, "--certificate")[1]])
 
 
 def full_room(count):

@@ -15,8 +15,8 @@ from datetime import datetime, timezone
 from zoneinfo import ZoneInfo
 
 import dateutil
-from bench import IN_NEW_YORK, SERIES, crlf, rule_of_lists
 from dateutil.rrule import rrulestr
+from texts import IN_NEW_YORK, SERIES, crlf, rule_of_lists
 
 COUNT = 95_000
 LAST_WEEKDAY = "FREQ=MONTHLY;BYDAY=MO,TU,WE,TH,FR;BYSETPOS=-1"

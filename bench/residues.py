@@ -15,9 +15,9 @@ from bisect import bisect_left
 from datetime import datetime, timedelta, timezone
 from zoneinfo import ZoneInfo
 
-from bench import NEW_YORK, REQUEST, ROOM, crlf, in_new_york, preamble, run
 from dateutil.rrule import rrulestr
-from spans import FAST, LISTED, PARIS, kept, least
+from runs import checked, kept, least, serve, share_of_fast
+from texts import NEW_YORK, PARIS, REQUEST, ROOM, crlf, preamble
 
 RUNS = 3
 SERIES, SINGLES = 63, 9_999
@@ -259,37 +259,18 @@ def by_list():
 
 def served(program, pieces):
     """The least seconds and the peak of a stream of requests, all accepted."""
-    found = []
-    with tempfile.TemporaryFile() as stream:
-        stream.writelines(pieces)
-        for _ in range(RUNS):
-            stream.seek(0)
-            seconds, peak, status, output = run([program, "serve"], stream)
-            if status != 0 or output.count(b"PARTSTAT=ACCEPTED") != len(pieces) - 1:
-                sys.exit(f"serve: status {status}, {output.count(b'PARTSTAT=ACCEPTED')} accepted of {len(pieces) - 1}")
-            found.append((seconds, peak))
-    return min(found)
+    return least(lambda: serve(program, pieces, len(pieces) - 1), RUNS)[:2]
 
 
-def checked(program, requests):
+def judged(program, requests):
     """The least seconds of the checker's yes to what a room keeps, and the peak; and whether each entry of its certificate says RES."""
     calendar, certificate = kept(program, requests)[1], kept(program, requests, "--certificate")[1]
-    with tempfile.TemporaryDirectory() as folder:
-        paths = [os.path.join(folder, name) for name in ("kept.ics", "kept.cert")]
-        for path, octets in zip(paths, (calendar, certificate)):
-            with open(path, "wb") as file:
-                file.write(octets)
-        found = []
-        for _ in range(RUNS):
-            seconds, peak, status, output = run([program, "check", *paths, ROOM.format(0)], None)
-            if (status, output) != (0, b"yes\n"):
-                sys.exit(f"check: status {status}, {output!r}")
-            found.append((seconds, peak))
-    return *min(found), certificate.count(b" RES ") == certificate.count(b"PAIR")
+    seconds, peak, _ = least(lambda: checked(program, [calendar], certificate), RUNS)
+    return seconds, peak, certificate.count(b" RES ") == certificate.count(b"PAIR")
 
 
 def residues(program):
-    share = LISTED / in_new_york(program, LISTED)[0] / FAST
+    share = share_of_fast(program)
     missed = 0
     print(f"{'a room of 63 endless series and 9,999 singles':<52}{'ms':>9}{'of a fast machine':>19}{'bar':>7}")
 
@@ -308,10 +289,10 @@ def residues(program):
     row("the whole room from nothing", whole, 1500)
     certificate = least(lambda: kept(program, pieces[1:], "--certificate")[0]) - least(lambda: kept(program, pieces[1:])[0])
     row("the certificate beyond the calendar", max(certificate, 1e-4), 50)
-    seconds, most, _ = checked(program, pieces[1:])
+    seconds, most, _ = judged(program, pieces[1:])
     row("its certificate checked", seconds, 3000)
     peak = max(peak, most)
-    seconds, most, all_res = checked(program, settled_room()[1:])
+    seconds, most, all_res = judged(program, settled_room()[1:])
     row("one of a room whose pairs are all settled by residues" if all_res else "one that should say RES of each pair", seconds, 500)
     row("64 daily series, a day full in New York, from nothing", served(program, day_in_new_york())[0], 1000)
     memory = max(peak, most) / 2**20

@@ -4,16 +4,14 @@ answers; each time in an order of its own. The seconds are those of the processo
     python3 bench/schedules.py bin/schedule_examples
 """
 
-import os
 import random
 import re
-import subprocess
 import sys
-import tempfile
 from datetime import timedelta
 from pathlib import Path
 
-from bench import FIRST, REQUEST, ROOM
+from runs import with_files
+from texts import FIRST, REQUEST, ROOM
 
 ROOMS, ORGANISERS = 20, ("ann", "ben")
 STORES = 10_000
@@ -53,27 +51,15 @@ def schedule(meetings):
     return steps, sent
 
 
-def run(program, table):
-    """Seconds, peak octets, status and output of the program with a table."""
-    with tempfile.TemporaryDirectory() as folder, tempfile.TemporaryFile() as output:
-        path = Path(folder, "table")
-        path.write_text(table, encoding="ascii")
-        child = subprocess.Popen([program, str(path)], stdin=subprocess.DEVNULL, stdout=output)
-        _, status, usage = os.wait4(child.pid, 0)
-        child.returncode = os.waitstatus_to_exitcode(status)
-        output.seek(0)
-        return usage.ru_utime + usage.ru_stime, usage.ru_maxrss * 1024, child.returncode, output.read()
-
-
 def played(program, meetings):
     """Seconds and peak of a schedule, and how many meetings the rooms keep then."""
     steps, sent = schedule(meetings)
     hosts = ["rooms " + " ".join(f"r{number}" for number in range(ROOMS)), "organisers " + " ".join(ORGANISERS)]
     asked = [f"sent {sent - 1} METHOD", f"sent {sent}", *(f"kept r{number} UID" for number in range(ROOMS))]
-    seconds, peak, status, output = run(program, " | ".join(["a schedule", *hosts, *steps, *asked]) + "\n")
-    if status != 0 or not output.startswith(b"a schedule: METHOD:REPLY | none | "):
-        sys.exit(f"schedule: status {status}, {output[:80]}")
-    return seconds, peak, len(re.findall(rb"UID:", output))
+    ran, _ = with_files([program], [(" | ".join(["a schedule", *hosts, *steps, *asked]) + "\n").encode()])
+    if ran.status != 0 or not ran.output.startswith(b"a schedule: METHOD:REPLY | none | "):
+        sys.exit(f"schedule: status {ran.status}, {ran.output[:80]}")
+    return ran.processor, ran.peak, len(re.findall(rb"UID:", ran.output))
 
 
 def once(count):

@@ -2,39 +2,11 @@
 one that lists 4,700,000 instances a second of the daily series in New York; elsewhere it is divided by this machine's share of that."""
 
 import os
-import subprocess
 import sys
 import tempfile
 
-from bench import NEW_YORK, ROOM, certificate_of, in_new_york, preamble, recurring, run, serve
-
-FAST = 4_700_000
-LISTED = 95_000
-RUNS = 5
-PARIS = """BEGIN:VTIMEZONE
-TZID:Europe/Paris
-BEGIN:STANDARD
-DTSTART:19961027T030000
-TZOFFSETFROM:+0200
-TZOFFSETTO:+0100
-RRULE:FREQ=YEARLY;BYMONTH=10;BYDAY=-1SU
-END:STANDARD
-BEGIN:DAYLIGHT
-DTSTART:19970330T020000
-TZOFFSETFROM:+0100
-TZOFFSETTO:+0200
-RRULE:FREQ=YEARLY;BYMONTH=3;BYDAY=-1SU
-END:DAYLIGHT
-END:VTIMEZONE
-"""
-
-
-def in_paris(number, start, rule):
-    return recurring(number, start, rule, zone=PARIS).replace(b"TZID=America/New_York", b"TZID=Europe/Paris")
-
-
-def least(measure):
-    return min(measure() for _ in range(RUNS))
+from runs import checked, kept, least, run, serve, share_of_fast
+from texts import NEW_YORK, ROOM, certificate_of, in_paris, preamble, recurring
 
 
 def decided(program, requests):
@@ -43,38 +15,13 @@ def decided(program, requests):
     return max(whole - least(lambda: serve(program, [preamble(1)], 0)[0]), 1e-4)
 
 
-def kept(program, requests, *words):
-    """What a room keeps after these requests, and the seconds of that."""
-    with tempfile.TemporaryFile() as stream:
-        for piece in [preamble(1), *requests]:
-            stream.write(piece)
-        stream.seek(0)
-        seconds, _, status, output = run([program, "keep", *words, ROOM.format(0)], stream)
-    if status != 0:
-        sys.exit(f"keep: status {status}")
-    return seconds, output
-
-
-def checked(program, calendar, certificate):
-    """The seconds of the checker's yes, beyond those of the yes to an empty calendar."""
-    with tempfile.TemporaryDirectory() as folder:
-        paths = [os.path.join(folder, name) for name in ("kept.ics", "kept.cert")]
-        for path, octets in zip(paths, (calendar, certificate)):
-            with open(path, "wb") as file:
-                file.write(octets)
-        seconds, _, status, output = run([program, "check", *paths, ROOM.format(0)], None)
-    if (status, output) != (0, b"yes\n"):
-        sys.exit(f"check: status {status}, {output!r}")
-    return seconds
-
-
 def by_both(program, requests):
     """The seconds of the checker's yes to the kept certificate, and to one whose entries say END."""
     calendar, certificate = kept(program, requests)[1], kept(program, requests, "--certificate")[1]
     if b"END" in certificate:
         sys.exit(f"no period: {certificate!r}")
     ends = certificate_of(0, len(requests)).encode()
-    return least(lambda: checked(program, calendar, certificate)), checked(program, calendar, ends)
+    return least(lambda: checked(program, [calendar], certificate)[0]), checked(program, [calendar], ends)[0]
 
 
 def pair_alone(worked, requests, program):
@@ -88,10 +35,10 @@ def pair_alone(worked, requests, program):
             for name in ("messages.txt", "residues.txt", "events.txt", "calendars.txt", "organisers.txt"):
                 with open(os.path.join(folder, name), "w", encoding="utf-8") as file:
                     file.write(case if name == "messages.txt" else "")
-            seconds, _, status, output = run([os.path.abspath(worked)], subprocess.DEVNULL, folder)
-        if status != 0 or output.count(b"clear, clear") != count:
-            sys.exit(f"clashes: status {status}, {output!r}")
-        return seconds
+            ran = run([os.path.abspath(worked)], folder=folder)
+        if ran.status != 0 or ran.output.count(b"clear, clear") != count:
+            sys.exit(f"clashes: status {ran.status}, {ran.output!r}")
+        return ran.seconds
 
     return (least(lambda: asked(times + 1)) - least(lambda: asked(1))) / times / 2
 
@@ -103,7 +50,7 @@ def weekly(count, zone=""):
 
 
 def spans(program, worked):
-    share = LISTED / in_new_york(program, LISTED)[0] / FAST
+    share = share_of_fast(program)
     print(f"{'by one common period':<46}{'ms':>8}{'of a fast machine':>19}{'bar':>6}{'up to 10000, ms':>17}{'times':>9}")
 
     def row(work, seconds, bar, to_the_horizon):

@@ -1,4 +1,4 @@
-# Completion of roombox in bash: `source docs/roombox.bash`. Made by bench/man_page.py from the help of roombox.
+# Completion of roombox in bash: `source docs/roombox.bash`. Made by docs/tables/man_page.py from the help of roombox.
 
 _roombox() {
     local word=${COMP_WORDS[COMP_CWORD]} options="serve keep meetings adapt agenda check expand explain box --adapt --zones --help --version" at

@@ -12,7 +12,7 @@ import re
 
 from lib.calendars import Calendar, instances
 from lib.cases import Cases
-from lib.program import kept, of_arguments, with_calendar
+from lib.program import checked, kept, of_arguments, with_calendar
 from lib.random_calendars import calendar_text
 from lib.streams import ANN, NOW, PREAMBLE, R1, calendar
 from lib.zones import DAY, WORDS, clock, moment, stamp
@@ -209,6 +209,14 @@ def said_rows():
     ]
 
 
+def of_check(cases, program):
+    """`check` says for which UID it refuses a calendar, where `agenda` says so behind the number; of a calendar that can be read it says nothing."""
+    for name, text, words, _, _, said in said_rows():
+        number, _, uid = said.partition("\n")
+        wanted = (1, "no 80\n", uid) if number.startswith("roombox: refused ") else (1, "no 81 1\n", "")
+        cases.holds(f"check, {name}", checked(program, text, "", words[0]), wanted)
+
+
 def of_kept(cases, program):
     """What `keep` writes passes for its room, without a word: also a declined instance of a series that was accepted, and a room that has nothing."""
     event = vevent("plan", f"ATTENDEE:{R1}")
@@ -232,6 +240,7 @@ def by_hand(cases, program):
     cases.holds("what keep prints of an empty room", run(program, text, R1)[:2], (0, ""))
     cases.holds("an empty room, as keep prints it, is free", run(program, text, R1, "--from", "20250415T140000Z", "--until", "20250415T150000Z", "--free")[0], 0)
     of_kept(cases, program)
+    of_check(cases, program)
 
 
 def tries(by_hand, random_cases):

@@ -80,11 +80,11 @@ def served(cases, devices):
         # what is answered once the octet behind the object was read
         ends.append((len(given) + 1, answers))
     cases.holds("no call fails", devices.run(["serve"], given), (0, answers, b""))
-    for call in range(1, len(given) + 3):
+    for call in range(1, len(given) + 2):
         octets = call - 1
         sent = b"".join([answer for end, answer in ends if end <= octets][-1:])
-        # the end of the input is read twice: the last object is answered between
         cases.holds(f"read {call}", devices.run(["serve"], given, FAILING_READ=call), (DEVICE[0], sent, DEVICE[1]))
+    cases.holds("the end of the input is read once", devices.run(["serve"], given, FAILING_READ=len(given) + 2), (0, answers, b""))
     for call in range(1, len(answers) + 1):
         cases.holds(f"write {call}", devices.run(["serve"], given, FAILING_WRITE=call), (DEVICE[0], answers[: call - 1], DEVICE[1]))
 

@@ -17,7 +17,7 @@ from lib.cases import Cases
 from lib.program import ROOT, of_arguments, run
 from lib.streams import NOW, OBJECT, PREAMBLE, R1, ROOM, answers, changed, message, request, unfolded, vevent
 
-sys.path.insert(0, str(ROOT / "bench"))
+sys.path.insert(0, str(ROOT / "docs" / "tables"))
 import man_page  # noqa: E402
 
 ANN = "organiser mailto:ann@example.com\n"
@@ -564,7 +564,7 @@ def kept_series(cases, program):
 
 def numbers_of_reference():
     """Of each number in the table of docs/REFERENCE.md what `explain` has to print."""
-    table = (ROOT / "docs" / "REFERENCE.md").read_text(encoding="utf-8").partition("<!-- table: bench/user_tables.py refusals -->")[2].partition("<!-- end of table -->")[0]
+    table = (ROOT / "docs" / "REFERENCE.md").read_text(encoding="utf-8").partition("<!-- table: docs/tables/users.py refusals -->")[2].partition("<!-- end of table -->")[0]
     rows = [[cell.strip() for cell in line.split("|")[1:-1]] for line in table.splitlines() if line[:3].strip("| ").isdigit()]
     return {int(number): f"{number}: {meaning}. What to do: {advice}.\n" for number, meaning, advice in rows}
 
@@ -898,8 +898,8 @@ def documents(cases, program):
     shown = [line.strip() for line in first if line.startswith("    ") and not line.strip().startswith(("$", "make"))]
     replied = iter((ROOT / "examples" / "first-request.replies").read_text(encoding="utf-8").splitlines())
     cases.holds("the first screen of README shows the first reply, in its order", ("METHOD:REPLY" in shown, [line for line in shown if line != ".." and line not in replied]), (True, []))
-    made = subprocess.run([sys.executable, ROOT / "bench" / "user_tables.py", "--check"], capture_output=True, text=True)
-    cases.holds("the tables for users are made from their sources (bench/user_tables.py)", (made.returncode, made.stderr), (0, ""))
+    made = subprocess.run([sys.executable, ROOT / "docs" / "tables" / "users.py", "--check"], capture_output=True, text=True)
+    cases.holds("the tables for users are made from their sources (docs/tables/users.py)", (made.returncode, made.stderr), (0, ""))
 
 
 def main():

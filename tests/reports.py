@@ -13,7 +13,7 @@ from pathlib import Path
 
 from lib.cases import Cases
 from lib.program import of_arguments, run
-from lib.streams import PREAMBLE, R1, changed
+from lib.streams import PREAMBLE, R1, changed, message, request, vevent
 
 NOBODY = 65_534
 KNOWN = ", UID a, ORGANIZER mailto:ann@example.com"
@@ -57,6 +57,48 @@ def told(cases, program):
     zoned = changed({4: f"BEGIN:VTIMEZONE|TZID:B|{daylight}|{standard}|END:VTIMEZONE|BEGIN:VEVENT", 9: "DTSTART;TZID=B:20250310T090000"})
     said = run(program, "explain", given=zoned)[1].splitlines()[1]
     cases.holds("rules of both parts are in the way", said, "STANDARD at line 12: its RRULE has UNTIL. `roombox adapt` makes an object of it that is read.")
+
+
+def cancels(cases, program):
+    """A CANCEL after which no room is free of an instance that it had confirmed is told; what it finds is counted by hand."""
+    daily = ("DURATION:PT1H", "RRULE:FREQ=DAILY")
+    twice = ("DURATION:PT1H", "RRULE:FREQ=DAILY;COUNT=2")
+
+    def cancel(uid="a", sequence=1, slot=None, room=R1):
+        return message("CANCEL", vevent(uid, sequence, "20250310T090000Z", (), room, slot=slot))
+
+    series, single = request(lines=daily), request()
+    first, second, none = "20250310T090000Z", "20250311T090000Z", "20250311T093000Z"
+    moved = message("REQUEST", vevent("a", 0, "20250311T140000Z", ("DURATION:PT1H",), slot=second))
+    added = request(lines=("DURATION:PT1H", "RDATE:20250312T090000Z"))
+    both = message("REQUEST", [*vevent("a")[:6], "ATTENDEE:mailto:r2@example.com", *vevent("a")[6:]])
+    of_both = message("CANCEL", [*vevent("a", 1)[:6], "ATTENDEE:mailto:r2@example.com", *vevent("a", 1)[6:]])
+    other = request("b", room="mailto:r2@example.com")
+    for what, objects, told_of in [
+        ("a RECURRENCE-ID at which nothing starts", [series, cancel(slot=none)], {2: KNOWN}),
+        ("one at which an instance starts", [series, cancel(slot=second)], {}),
+        ("an instance that was cancelled before", [series, cancel(slot=second), cancel(sequence=2, slot=second)], {3: KNOWN}),
+        ("a series without one of its instances", [series, cancel(slot=second), cancel(sequence=2)], {}),
+        ("a series all of whose instances were cancelled", [request(lines=twice), cancel(slot=first), cancel(slot=second), cancel(sequence=2)], {4: KNOWN}),
+        ("a series of no instance", [request(lines=("DURATION:PT1H", "RRULE:FREQ=DAILY;COUNT=1", f"EXDATE:{first}")), cancel()], {2: KNOWN}),
+        ("a single", [single, cancel()], {}),
+        ("a single by its RECURRENCE-ID", [single, cancel(slot=first)], {}),
+        ("a single by another RECURRENCE-ID", [single, cancel(slot=second)], {2: KNOWN}),
+        ("an instance that was moved", [series, moved, cancel(slot=second)], {}),
+        ("a date that RDATE adds", [added, cancel(slot="20250312T090000Z")], {}),
+        ("a meeting that was declined", [single, request("b"), cancel("b")], {3: KNOWN.replace("UID a", "UID b")}),
+        ("a meeting that nobody knows, and its REQUEST", [cancel(), single], {1: KNOWN}),
+        ("a meeting of another ORGANIZER", [single, cancel().replace("ann@", "bob@")], {2: KNOWN.replace("ann@", "bob@")}),
+        ("two rooms, one of which had declined", [other, both, of_both], {}),
+        ("the room that had declined alone", [other, both, cancel(room="mailto:r2@example.com")], {3: KNOWN}),
+        ("a REQUEST that cancels what nobody knows", [request(lines=("DURATION:PT1H", "STATUS:CANCELLED"))], {}),
+    ]:
+        stream = "now 20250102T000000Z\nroom mailto:r1@example.com\nroom mailto:r2@example.com\n\n" + "".join(objects)
+        lines = [line for line in run(program, "serve", "--report", given=stream)[2].splitlines() if "cancels" in line]
+        cases.holds(f"a CANCEL of {what}", lines, [f"roombox: object {number}: cancels nothing, CANCEL{known}" for number, known in told_of.items()])
+    stale = [request(sequence=2), cancel(sequence=1), cancel(sequence=3), cancel(sequence=3)]
+    said = f"roombox: object 2: stale, CANCEL{KNOWN}\nroombox: object 4: changed nothing, CANCEL{KNOWN}\nroombox: 4 objects, 0 refused\n"
+    cases.holds("each object gets one line at most", run(program, "serve", "--report", given=PREAMBLE + "".join(stale))[2], said)
 
 
 def devices(cases, program, parent):
@@ -114,6 +156,11 @@ def boxes(cases, program, parent):
     cases.holds("a report of a new file", reported("--report"), (0, "", f"roombox: {second} object 1: reached no room, REQUEST{KNOWN}\n"))
     (outbox / first.replace(".ics", ".out")).unlink()
     cases.holds("a report of a file whose answers are gone", reported("--report"), (0, "", lines))
+    third = "00000003-20250102T000000Z.ics"
+    (inbox / third).write_bytes(changed({3: "METHOD:CANCEL", 5: "UID:b", 10: "SEQUENCE:1"}).encode())
+    cases.holds("a report of a CANCEL that frees nothing", reported("--report"), (0, "", f"roombox: {third} object 1: cancels nothing, CANCEL{KNOWN.replace('UID a', 'UID b')}\n"))
+    for name in (third, third.replace(".ics", ".out")):
+        (inbox if name == third else outbox).joinpath(name).unlink()
     for name in (first, second):
         (outbox / name.replace(".ics", ".out")).unlink()
     cases.holds("without --report nothing is said", reported(), (0, "", ""))
@@ -261,6 +308,7 @@ def main():
     full_standard_error(cases, program)
     as_they_come(cases, program)
     told(cases, program)
+    cancels(cases, program)
     for part in (devices, boxes, left_alone, files_that_fail, full_disk):
         with tempfile.TemporaryDirectory() as folder:
             part(cases, program, Path(folder))

@@ -1,14 +1,17 @@
 -- The runs that a loop has still to look at. For `all_hold` and `covers`.
-use Rattle.std.proofs.Common.{◌≡◌, ap, sym, subst, ℕ, zero, suc, ◌+◌, ◌<◌, ◌≤◌, List, [], ◌∷◌, length, get_or, drop, arith, ℤ, ◌≤ℤ◌}
+use Rattle.std.proofs.Common.{◌≡◌, refl, ap, sym, subst, ℕ, zero, suc, ◌+◌, ◌<◌, ◌≤◌, List, [], ◌∷◌, length, get_or, drop, arith, ℤ, ◌≤ℤ◌, Option, Some, None}
 use Rattle.std.specs.Prelude.{Contains}
 use Rattle.std.specs.Int.Signed.{◌<ℤ◌}
 use Rattle.std.proofs.lemmas.Int.{by_lt_z}
 use Rattle.std.proofs.lemmas.List.{drop_all}
+use Rattle.std.proofs.lemmas.Option.{none-some}
 use Rattle.std.proofs.lemmas.List.Elements.{Contains-get_or}
 use Rattle.ical_tree.proofs.OneLine.{at_place}
-use Rattle.profile.specs.series.Zones.{Observance, Onset, IsOnset}
-use Rattle.profile.specs.series.GeneralZones.{Run, IsRunOnset, IsGeneralOnset}
-use Rattle.cal_doors.specs.Runs.{run_of, runs_in}
+use Rattle.jiff_core.proofs.SignedLemmas.{signed_arith}
+use Rattle.profile.specs.doors.Adapting.{HasEnd}
+use Rattle.profile.specs.series.Zones.{IsFirstOf, Observance, Onset, IsOnset}
+use Rattle.profile.specs.series.GeneralZones.{Never, Run, IsRunOnset, IsGeneralOnset}
+use Rattle.cal_doors.specs.Runs.{IsEndless, run_of, runs_in}
 use Rattle.cal_doors.specs.declared.run.Run as kept
 
 -- a run of the list is one of those that it represents
@@ -57,6 +60,24 @@ no_run r (k, w, e) = omega (arith, w)
 
 pub runs_end : (P : Run → Type 0) (runs : List kept.Run) (i : ℕ) → length runs ≤ i → RunsLeft P runs i → (r : Run) → Contains (runs_in runs) r → P r
 runs_end P runs i w left = left (λ r is. absurd (no_run r (subst (λ l. Contains (runs_in l) r) (drop_all i runs w) is)))
+
+-- it is no rule that began before an instant and goes on without an end
+abbrev pub EndsBy : ℤ → Run → Type 0
+EndsBy to run = (first : Onset) → IsOnset run.observance first → first.instant ≤ℤ to → run.end ≡ Never → run.observance.rule ≡ None
+
+-- it began later, or its rule ends
+pub ends_late : (to first : ℤ) (run : Run) → IsFirstOf run.observance first → to <ℤ first → EndsBy to run
+ends_late to first run is later onset on by end = absurd (omega (arith, signed_arith, later, by, is.least onset on))
+
+pub ends_once : (to : ℤ) (run : Run) → (IsEndless run → ⊥) → EndsBy to run
+ends_once to run ends onset on by end = without run.observance.rule (λ some. ends (end, some))
+  where
+    without : {X : Type 0} (rule : Option X) → ((rule ≡ None → ⊥) → ⊥) → rule ≡ None
+    without None h = refl
+    without (Some x) h = absurd (h (λ e. none-some x (sym e)))
+
+pub all_end : (to : ℤ) (runs : List kept.Run) (i : ℕ) → length runs ≤ i → RunsLeft (EndsBy to) runs i → HasEnd (runs_in runs) to
+all_end to runs i w left run first among = runs_end (EndsBy to) runs i w left run among first
 
 -- the onsets of an observance after an instant and up to another are those of a zone
 abbrev pub AreThere : List Run → Observance → ℤ → ℤ → Type 0

@@ -187,7 +187,8 @@ fn last_of_all(runs: &[Run]) -> i64
 
 /// Whether no rule that began before an instant goes on without an end.
 pub(crate) fn has_end(runs: &[Run], to: i64) -> bool
-    ensures { result ≡ false → HasEnd (runs_in runs.now) to → ⊥ }
+    ensures yes { result ≡ true → HasEnd (runs_in runs.now) to }
+    ensures no { result ≡ false → HasEnd (runs_in runs.now) to → ⊥ }
 {
     for run in runs {
         if to < run.first_bound() {

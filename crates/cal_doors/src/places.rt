@@ -1,6 +1,6 @@
 //! Where to look for the zone that some runs are: what is found here is checked by those who use it.
 
-ghost use Rattle.std.specs.Prelude.{◌≡◌, true};
+ghost use Rattle.std.specs.Prelude.{◌≡◌, true, false};
 ghost use Rattle.cal_doors.specs.Runs.{run_of, IsEndless};
 
 use crate::end::End;
@@ -70,7 +70,8 @@ pub(crate) fn earliest_place(runs: &[Run], other: &Run) -> Option<usize> {
 
 /// Whether a run has a rule that never ends.
 pub(crate) fn is_endless(run: &Run) -> bool
-    ensures { result ≡ true → IsEndless (run_of run.now) }
+    ensures yes { result ≡ true → IsEndless (run_of run.now) }
+    ensures no { result ≡ false → IsEndless (run_of run.now) → ⊥ }
 {
     match run.end {
         End::Never => run.each.is_some(),

@@ -16,7 +16,7 @@ pub struct GeneralZone {
 }
 
 impl GeneralZone {
-    ghost use Rattle.std.specs.Prelude.{◌≡◌, false, IfSome, IfNone, IfOk, IfErr};
+    ghost use Rattle.std.specs.Prelude.{◌≡◌, true, false, IfSome, IfNone, IfOk, IfErr};
     ghost use Rattle.ical_lines.specs.Fault.{RefusesBy};
     ghost use Rattle.ical_tree.specs.Tree.{tree_of};
     ghost use Rattle.profile.specs.series.GeneralZoneTexts.{SaysGeneralZone, GeneralZoneFault};
@@ -125,7 +125,8 @@ impl GeneralZone {
 
     /// Whether its table ends in 2036 or later, with no rule that goes on without an end, and local times don't that end by the last, if they end.
     pub(crate) fn ends_before(&self, last: Option<i64>) -> bool
-        ensures { result ≡ false → EndsBefore (general_of self.now) last → ⊥ }
+        ensures yes { result ≡ true → EndsBefore (general_of self.now) last }
+        ensures no { result ≡ false → EndsBefore (general_of self.now) last → ⊥ }
     {
         if last.is_some() {
             return false;

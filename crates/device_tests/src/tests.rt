@@ -1,7 +1,9 @@
 //! Readers and writers of few octets a call, that are interrupted or fail, and a writer that holds octets back until it is flushed. Long
 //! texts go through them too. What comes out of a whole stream is shown by the crate `worked_examples`.
 
-use sched_box::{DeviceReader, DeviceWriter, ServeFault, ServeReport, StreamFault, serve_stream};
+use sched_box::{
+    DeviceReader, DeviceWriter, Recorder, ServeFault, ServeReport, StreamFault, serve_stream,
+};
 use std::alloc::{AllocError, Global};
 use std::io::{self, ErrorKind, Read, Write};
 use std::process::Abort;
@@ -328,9 +330,78 @@ fn a_reader_that_fails_leaves_the_answers_sent(rt: HostRuntime) -> Result<(), Fa
         };
         check(&rt, Devices { reads, ..one }, read, sent)?;
     }
-    // all octets were given: the answers to all objects have left before the end of the input is read
+    // the end of the input is read once: a read after it would fail
     let reads = Failures::new(STREAM.len() as u32 + 2, 1, ErrorKind::ConnectionReset);
-    check(&rt, Devices { reads, ..one }, read, ANSWERS.as_bytes())?;
+    check(
+        &rt,
+        Devices { reads, ..one },
+        Ok(SERVED),
+        ANSWERS.as_bytes(),
+    )?;
+    Ok(())
+}
+
+/// A reader that gives some octets, then once nothing, and then others, as a terminal does.
+#[derive(Drop)]
+struct PausingReader<'a> {
+    before: &'a [u8],
+    after: &'a [u8],
+    paused: bool,
+}
+
+impl Read for PausingReader<'_> {
+    fn read(&mut self, buf: &mut [u8]) -> io::Result<usize> {
+        if self.before.is_empty() && !self.paused {
+            self.paused = true;
+            self.before = self.after;
+            return Ok(0);
+        }
+        let count = buf.len().min(self.before.len());
+        let (front, rest) = self.before.split_at(count);
+        buf[..count].copy_from_slice(front);
+        self.before = rest;
+        Ok(count)
+    }
+}
+
+#[test]
+fn a_device_that_goes_on_after_its_end_is_not_read_again(rt: HostRuntime) -> Result<(), Fail> {
+    let alloc = rt.alloc();
+    let one_more = "BEGIN:VCALENDAR\r\nVERSION:2.0\r\nMETHOD:REFRESH\r\nEND:VCALENDAR\r\n";
+    let pausing = PausingReader {
+        before: STREAM.as_bytes(),
+        after: one_more.as_bytes(),
+        paused: false,
+    };
+    let mut reader = DeviceReader::new(alloc, pausing)?;
+    let mut sent = Vec::new(alloc);
+    let report = serve_stream(alloc, &mut reader, &mut sent);
+    assert_eq!(rt; report, Ok(SERVED));
+    assert_eq!(rt; sent.as_slice(), ANSWERS.as_bytes());
+    Ok(())
+}
+
+#[test]
+fn a_recorder_keeps_the_octets_that_were_served(rt: HostRuntime) -> Result<(), Fail> {
+    let alloc = rt.alloc();
+    for call in [FIRST_END as u32 + 2, u32::MAX] {
+        let slow = SlowReader {
+            left: STREAM.as_bytes(),
+            most: 1,
+            failures: Failures::new(call, 1, ErrorKind::ConnectionReset),
+        };
+        let mut recorder = Recorder::new(alloc, DeviceReader::new(alloc, slow)?);
+        let mut sent = Vec::new(alloc);
+        let report = serve_stream(alloc, &mut recorder, &mut sent);
+        // where a read fails, all that was lent before it was taken
+        let (taken, answered) = match report {
+            Ok(_) => (STREAM.len(), ANSWERS),
+            Err(_) => (FIRST_END + 1, first_answer()),
+        };
+        assert_eq!(rt; recorder.octets(), &STREAM.as_bytes()[..taken]);
+        assert!(rt; !recorder.is_lost());
+        assert_eq!(rt; sent.as_slice(), answered.as_bytes());
+    }
     Ok(())
 }
 

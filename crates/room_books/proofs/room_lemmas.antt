@@ -20,3 +20,4 @@ pub mod PutSeries
 pub mod WholeDeciding
 pub mod AllConfirmed
 pub mod OneText
+pub mod Freeing

@@ -22,3 +22,4 @@ pub mod Givens
 pub mod SlotPlaces
 pub mod Fewer
 pub mod Recurrings
+pub mod Losses

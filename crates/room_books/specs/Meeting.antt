@@ -1,5 +1,5 @@
 -- What the types of a room represent, and what is decided of an instance.
-use Rattle.std.specs.Prelude.{◌≡◌, ◌≢◌, ℕ, ℤ, Bool, true, not, ◌&&◌, ◌==◌, List, [], ◌++◌, ◌≤◌, length, map, filter, Contains, AllPairs, Option, Some, None, option_map, slice_get}
+use Rattle.std.specs.Prelude.{◌≡◌, ◌≢◌, ℕ, ℤ, Bool, true, false, not, ◌&&◌, ◌||◌, ◌==◌, List, [], ◌++◌, ◌≤◌, length, map, filter, Contains, AllPairs, Option, Some, None, option_map, slice_get}
 use Rattle.std.specs.Option.{option_to_list}
 use Rattle.std.specs.List.{flat_map, list_any}
 use Rattle.std.specs.Str.{bytes_eq}
@@ -156,6 +156,27 @@ all_series answers = flat_map (λ given. option_to_list given.series) answers
 pub record AreFewer (before after : List Series) : Type 0 where
   pub shorter : length after ≤ length before
   pub within : (single : Single) → RecursIn after single → RecursIn before single
+
+-- an instance of these series is of none of those
+pub record LosesOne (before after : List Series) : Type 0 where
+  pub single : Single
+  pub was : RecursIn before single
+  pub gone : RecursIn after single → ⊥
+
+-- exactly where it is said, one is
+abbrev pub SaysLoss : Bool → List Series → List Series → Type 0
+SaysLoss true before after = LosesOne before after
+SaysLoss false before after = (single : Single) → RecursIn before single → RecursIn after single
+
+-- and where one was before
+pub record AddsLoss (old new : Bool) (before after : List Series) : Type 0 where
+  pub loses : Bool
+  pub says : SaysLoss loses before after
+  pub is : new ≡ (old || loses)
+
+-- the same of the series of one meeting, which has one at most
+abbrev pub SaysLossOfOne : Bool → List Series → List Series → Type 0
+SaysLossOfOne loses before after = length before ≤ 1 → SaysLoss loses before after
 
 -- those that a meeting has confirmed
 abbrev pub series_by : Option Meeting → List Series

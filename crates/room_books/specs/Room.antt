@@ -1,5 +1,5 @@
 -- What the meetings of a room represent: the parts that were taken, and the answers to them.
-use Rattle.std.specs.Prelude.{◌≡◌, ◌≢◌, ◌↔◌, ℕ, ℤ, Bool, true, ◌&&◌, List, [], ◌∷◌, ◌++◌, length, filter, Contains, Option, Some, None, IfSome, slice_get}
+use Rattle.std.specs.Prelude.{◌≡◌, ◌≢◌, ◌↔◌, ℕ, ℤ, Bool, true, false, ◌&&◌, List, [], ◌∷◌, ◌++◌, length, filter, Contains, Option, Some, None, IfSome, slice_get}
 use Rattle.std.specs.Option.{option_to_list}
 use Rattle.std.specs.Str.{bytes_eq, IsUtf8}
 use Rattle.std.specs.List.{AllZip}
@@ -17,7 +17,7 @@ use Rattle.profile.specs.series.Zones.{Zone}
 use Rattle.profile.specs.text.Values.{IsClockSeconds}
 use Rattle.profile.specs.rooms.Revisions.{Part, Slot, Whole, At, Body, Set, Absent, Cancelled, in_view}
 use Rattle.profile.specs.rooms.Messages.{Outcome}
-use Rattle.profile.specs.rooms.Rooms.{Claim, PartAnswer as SaidAnswer, Book, Confirms, Kind, Recurring, is_set, parts_of, asked, answered, singles_confirmed, series_confirmed, IsShownInSeries, IsStep, IsWithinLimits, kind_of}
+use Rattle.profile.specs.rooms.Rooms.{Claim, PartAnswer as SaidAnswer, Book, Confirms, Kind, Recurring, is_set, parts_of, asked, answered, singles_confirmed, series_confirmed, IsShownInSeries, Frees, IsStep, IsWithinLimits, KeepsConfirmed, is_decision, kind_of}
 use Rattle.profile.specs.rooms.Kept.{Replies, Refreshes, first_parts}
 use Rattle.profile.specs.streams.Streams.{IsReached}
 use Rattle.itip_messages.specs.Message as messages
@@ -222,6 +222,12 @@ pub record StepsTo (entries : List (MeetingKey × Meeting)) (book : Book) (claim
   pub step : IsStep book claims moment outcome after
   pub represents : Represents entries after
   pub kind_is : kind ≡ kind_of book.taken after.taken claims outcome
+
+-- it is told exactly where nothing is decided whether an instance that was confirmed isn't any more
+pub record TellsFreed (kind : Kind) (frees : Bool) (before after : Book) : Type 0 where
+  pub undecided : frees ≡ true → is_decision kind ≡ false
+  pub freed : frees ≡ true → Frees before after
+  pub kept : frees ≡ false → is_decision kind ≡ false → KeepsConfirmed before after
 
 -- and a reply comes exactly where a part is shown: it shows the answers that the book after it has. A refresh comes exactly where the message
 -- adds instances, and the whole is wanted

@@ -1,5 +1,5 @@
 -- What a message does to its meeting.
-use Rattle.std.specs.Prelude.{◌≡◌, ◌≢◌, ◌⊎◌, ◌↔◌, ◌<◌, ◌≤◌, ◌++◌, ℕ, ℤ, Bool, true, false, Contains, not, ◌&&◌, nat_lt, IsTrue, if◌then◌else◌, List, [], length, map, filter, AllPairs, Option, Some, None, option_map, is_some, Vec}
+use Rattle.std.specs.Prelude.{◌≡◌, ◌≢◌, ◌⊎◌, ◌↔◌, ◌<◌, ◌≤◌, ◌++◌, ℕ, ℤ, Bool, true, false, Contains, not, ◌&&◌, ◌||◌, ◌==◌, nat_lt, IsTrue, if◌then◌else◌, List, [], length, map, filter, AllPairs, Option, Some, None, option_map, is_some, Vec}
 use Rattle.std.specs.List.{AllZip}
 use Rattle.std.specs.Option.{option_to_list}
 use denote.Ref.{Bor}
@@ -28,7 +28,7 @@ use Rattle.room_books.specs.declared.meeting.PartAnswer.{PartAnswer}
 use Rattle.room_books.specs.declared.meeting.Outcome.{Outcome}
 use Rattle.room_books.specs.declared.claim.Claim.{Claim}
 use Rattle.room_books.specs.declared.meeting.MeetingKey.{MeetingKey}
-use Rattle.room_books.specs.Meeting.{outcome_of, all_singles, all_series, instance_list, joined, slots_of, IsClearIn, MayJoin, Recurs, SeriesMayJoin}
+use Rattle.room_books.specs.Meeting.{outcome_of, all_singles, all_series, instance_list, joined, slots_of, IsClearIn, MayJoin, Recurs, RecursIn, SeriesMayJoin}
 use Rattle.room_books.specs.Gone.{IsPartOf}
 use Rattle.profile.specs.rooms.Messages.{Content, no_content}
 use Rattle.itip_messages.specs.BodyText.{content_in}
@@ -141,6 +141,14 @@ IsSeriesLeft hides None (Some left) = ⊥
 IsSeriesLeft hides (Some series) None = ⊥
 IsSeriesLeft hides (Some series) (Some left) = (booked : Instance) → IsInstance (series_said left) booked ↔ (IsInstance (series_said series) booked × (hides booked ≡ false))
 
+-- an instance of one of these series is hidden so
+pub record HidesOneOf (hides : Instance → Bool) (all : List Series) : Type 0 where
+  pub series : Series
+  pub among : Contains all series
+  pub booked : Instance
+  pub is : IsInstance (series_said series) booked
+  pub hidden : hides booked ≡ true
+
 -- the instances of the part that are hidden so are those of these original starts
 abbrev pub AreHiddenStarts : List Slot → List revisions.Part → revisions.Part → List ℤ → Type 0
 AreHiddenStarts slots history part starts = (booked : Instance) → Contains starts booked.key.slot ↔ (is_hidden_by slots history part booked ≡ true)
@@ -243,6 +251,27 @@ AreAnswersDecided others key held moment kept asked answers (Some outcome) =
     × AllZip (λ candidate given. IsDecided candidate outcome given) candidates decided
     × IsWholeDecision others key kept candidates outcome
     × Reordered (kept ++ decided) answers)
+
+-- nothing was decided, and an instance that was confirmed isn't any more: these singles are gone, or an instance of a series is
+abbrev pub frees_then : Option Outcome → List Single → Bool → Bool
+frees_then None gone sheds = sheds || not (length gone == 0)
+frees_then (Some outcome) gone sheds = false
+
+-- an instance is of these singles or series
+abbrev pub IsAmongBoth : List Single → List Series → Single → Type 0
+IsAmongBoth singles series single = Contains singles single ⊎ RecursIn series single
+
+-- one that was of the first answers is of none of the second
+pub record FreesOne (singles left : List Single) (series still : List Series) : Type 0 where
+  pub single : Single
+  pub was : IsAmongBoth singles series single
+  pub gone : IsAmongBoth left still single → ⊥
+
+-- of the instances of one meeting it is told exactly where nothing is decided whether one isn't confirmed any more
+pub record SaysFreed (decided frees : Bool) (singles left : List Single) (series still : List Series) : Type 0 where
+  pub undecided : frees ≡ true → decided ≡ false
+  pub freed : frees ≡ true → AreOfOneMeeting singles series → FreesOne singles left series still
+  pub kept : frees ≡ false → decided ≡ false → AreOfOneMeeting singles series → (single : Single) → IsAmongBoth singles series single → IsAmongBoth left still single
 
 -- what was decided of a message; nothing depends on it where nothing was
 abbrev pub outcome_said : Option Outcome → messages.Outcome

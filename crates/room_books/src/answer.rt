@@ -1,6 +1,6 @@
 //! What a room answers to a message.
 
-ghost use Rattle.std.specs.Prelude.{◌≡◌, None};
+ghost use Rattle.std.specs.Prelude.{◌≡◌, false, None};
 
 use clash_cert::Clash;
 
@@ -41,21 +41,25 @@ pub struct Answer {
     /// The REFRESH that asks for a meeting (RFC 5546 3.2.6); None unless an ADD brought something new of one of which nothing of the whole was
     /// ever taken.
     pub refresh: Option<Vec<u8>>,
+    /// Whether nothing was decided, and an instance that was confirmed isn't any more.
+    pub frees: bool,
 }
 
 impl Answer {
     ghost use Rattle.room_books.specs.Taking.{refresh_octets, reply_octets};
 
-    /// An answer that sends nothing.
+    /// An answer that sends nothing, and frees nothing.
     pub fn silent(kind: Kind) -> Answer
         ensures kind { result.kind ≡ kind }
         ensures reply { reply_octets result ≡ None }
         ensures refresh { refresh_octets result ≡ None }
+        ensures frees { result.frees ≡ false }
     {
         Answer {
             kind,
             reply: None,
             refresh: None,
+            frees: false,
         }
     }
 }

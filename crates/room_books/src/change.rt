@@ -1,6 +1,6 @@
 //! What a message changes in the view of its meeting, and in the answers that were given before: computed beside the room.
 
-ghost use Rattle.std.specs.Prelude.{◌≡◌, ◌&&◌, false, map, Contains, IsTrue, List, Some, IfOk, IfSome, is_some, option_copied};
+ghost use Rattle.std.specs.Prelude.{◌≡◌, ◌&&◌, ◌||◌, false, map, Contains, IsTrue, List, [], None, Some, IfOk, OnOk, IfSome, is_some, option_copied};
 ghost use Rattle.std.specs.List.{list_any};
 ghost use Rattle.profile.specs.rooms.Revisions as revisions;
 ghost use Rattle.profile.specs.rooms.Rooms as rooms;
@@ -10,17 +10,17 @@ ghost use Rattle.profile.specs.rooms.Revisions.{slot_cmp};
 ghost use Rattle.room_books.specs.Taking as takings;
 ghost use Rattle.room_books.specs.Slots as touching;
 ghost use Rattle.itip_order.specs.Registers.{RepresentsHistory};
-ghost use Rattle.room_books.specs.Meeting.{outcome_of, all_singles, all_series, series_by, singles_by, AreFewer};
+ghost use Rattle.room_books.specs.Meeting.{outcome_of, all_singles, all_series, series_by, singles_by, AddsLoss, AreFewer, SaysLossOfOne};
 ghost use Rattle.std.specs.Option.{option_to_list};
 ghost use Rattle.room_books.specs.Slots.{AllTouch, AreAnswersBySlot, givens, IsUntouched};
 ghost use Rattle.room_books.specs.Gone.{IsPartedInto, IsSplitInto, Sheds};
 ghost use Rattle.room_books.specs.declared.meeting.PartAnswer.{PartAnswer};
 ghost use Rattle.room_books.specs.Room.{KeepsEach, KeepsSome};
-ghost use Rattle.room_books.specs.Taking.{answers_by, LeavesAll, HasHistory, held_after, AreAsked, part_instance, KeepsWhatIsLeft, IsKindIn, IsLeftAlone, IsAnswerAfter, kept_then, kind_view, parts_said, series_still, singles_of_left};
+ghost use Rattle.room_books.specs.Taking.{answers_by, LeavesAll, HasHistory, held_after, AreAsked, part_instance, KeepsWhatIsLeft, IsKindIn, IsLeftAlone, IsAnswerAfter, frees_then, kept_then, kind_view, parts_said, series_still, singles_of_left};
 
 use crate::answer::Kind;
 use crate::claim::Claim;
-use crate::hidden::{hides_start, is_hidden, series_without};
+use crate::hidden::{has_instance, hides_start, is_hidden, series_without};
 use crate::kept::Meeting;
 use crate::meeting::{Outcome, PartAnswer};
 use crate::slots::{answers_at, answers_of, is_touched};
@@ -54,7 +54,46 @@ pub(crate) struct Change {
     pub left: Vec<PartAnswer>,
     /// The instances that no answer confirms any more.
     pub gone: Vec<Single>,
+    /// Whether one of a series is gone.
+    pub sheds: bool,
     ghost rises: { IsSortedByKey slot_of slot_cmp lost.items },
+}
+
+impl Change {
+    /// Whether an instance that an answer confirmed is gone.
+    pub(crate) fn frees(&self) -> bool
+        ensures { result ≡ frees_then None self.now.gone.items self.now.sheds }
+    {
+        self.sheds || !self.gone.is_empty()
+    }
+}
+
+/// What answers no longer confirm.
+#[derive(Drop)]
+struct Shed {
+    singles: Vec<Single>,
+    /// Whether an instance of a series is among it.
+    recurs: bool,
+}
+
+impl Shed {
+    /// All that an answer confirmed goes after the others.
+    fn add(&mut self, given: &PartAnswer) -> Result<(), AllocError>
+        ensures singles { OnOk result (Sheds given.now.singles.items [] self.old.singles.items self.new.singles.items) }
+        ensures series { OnOk result (AddsLoss self.old.recurs self.new.recurs (option_to_list given.now.series) []) }
+    {
+        self.singles.extend_from_slice(&given.singles)?;
+        self.lose(has_instance(&given.series));
+        Ok(())
+    }
+
+    /// An instance of a series goes too, or doesn't.
+    fn lose(&mut self, loses: bool)
+        ensures singles { self.new.singles ≡ self.old.singles }
+        ensures recurs { self.new.recurs ≡ (self.old.recurs || loses) }
+    {
+        self.recurs = self.recurs || loses;
+    }
 }
 
 /// The parts of these claims, as they are taken.
@@ -142,7 +181,8 @@ impl<'a> Views<'a> {
 
     /// What became of the message, where this was decided of the claims that get an answer now.
     pub(crate) fn kind_of(&self, outcome: &Option<Outcome>) -> Result<Kind, AllocError>
-        ensures { IfOk result (IsKindIn (option_copied self.now.before) self.now.after.now self.now.claims.now outcome.now) }
+        ensures kind { IfOk result (IsKindIn (option_copied self.now.before) self.now.after.now self.now.claims.now outcome.now) }
+        ensures decision { IfOk result (λ kind. rooms.is_decision (kind_view kind) ≡ is_some outcome.now) }
     {
         if let Some(outcome) = outcome {
             return kind_of_outcome(outcome);
@@ -213,12 +253,15 @@ impl<'a> Views<'a> {
             (all_singles (kept_then (option_copied self.now.before) change.lost.items change.left.items))) }
         ensures fewer { IfOk result (λ change.
             AreFewer (series_by (option_copied self.now.before)) (all_series (kept_then (option_copied self.now.before) change.lost.items change.left.items))) }
+        ensures sheds { IfOk result (λ change. (history : List revisions.Part) → RepresentsHistory self.now.after.now history
+            → SaysLossOfOne change.sheds (series_by (option_copied self.now.before)) (all_series (kept_then (option_copied self.now.before) change.lost.items change.left.items))) }
     {
         let Some(meeting) = self.before else {
             return Ok(Change {
                 lost: Vec::new(self.alloc),
                 left: Vec::new(self.alloc),
                 gone: Vec::new(self.alloc),
+                sheds: false,
             });
         };
         let lost = self.lost(meeting)?;
@@ -239,16 +282,26 @@ impl<'a> Views<'a> {
         ensures left { IfOk result (λ change. KeepsSome (part_of self.now.part.now) self.now.slots.now before.now.held self.now.after.now (givens out.now) change.left.items) }
         ensures split { IfOk result (λ change. IsSplitInto (all_singles (givens out.now)) change.gone.items (all_singles change.left.items)) }
         ensures fewer { IfOk result (λ change. AreFewer (all_series (givens out.now)) (all_series change.left.items)) }
+        ensures sheds { IfOk result (λ change. (history : List revisions.Part) → RepresentsHistory self.now.after.now history
+            → SaysLossOfOne change.sheds (all_series (givens out.now)) (all_series change.left.items)) }
     {
         let mut left = Vec::new(self.alloc);
-        let mut gone = Vec::new(self.alloc);
+        let mut gone = Shed {
+            singles: Vec::new(self.alloc),
+            recurs: false,
+        };
         for given in out {
             let Some(still) = self.still(before, given, &mut gone)? else {
                 continue;
             };
             left.push(still)?;
         }
-        Ok(Change { lost, left, gone })
+        Ok(Change {
+            lost,
+            left,
+            gone: gone.singles,
+            sheds: gone.recurs,
+        })
     }
 
     /// The slots of the answers that don't stay as they are, in order.
@@ -323,18 +376,20 @@ impl<'a> Views<'a> {
         &self,
         before: &Meeting,
         given: &PartAnswer,
-        gone: &mut Vec<Single>,
+        gone: &mut Shed,
     ) -> Result<Option<PartAnswer>, AllocError>
         ensures still { IfOk result (IsAnswerAfter self.now.slots.now before.now.held self.now.after.now (part_of self.now.part.now) given.now) }
-        ensures sheds { IfOk result (λ still. Sheds given.now.singles.items (singles_of_left still) gone.old.items gone.new.items) }
+        ensures sheds { IfOk result (λ still. Sheds given.now.singles.items (singles_of_left still) gone.old.singles.items gone.new.singles.items) }
         ensures fewer { IfOk result (λ still. AreFewer (option_to_list given.now.series) (series_still still)) }
+        ensures loses { IfOk result (λ still. (history : List revisions.Part) → RepresentsHistory self.now.after.now history
+            → AddsLoss gone.old.recurs gone.new.recurs (option_to_list given.now.series) (series_still still)) }
     {
         let Some(own) = before.part_in(self.part, given.slot) else {
-            gone.extend_from_slice(&given.singles)?;
+            gone.add(given)?;
             return Ok(None);
         };
         if !self.shows(own) {
-            gone.extend_from_slice(&given.singles)?;
+            gone.add(given)?;
             return Ok(None);
         }
         Ok(Some(self.left(own, given, gone)?))
@@ -346,15 +401,18 @@ impl<'a> Views<'a> {
         &self,
         part: &Part,
         given: &PartAnswer,
-        gone: &mut Vec<Single>,
+        gone: &mut Shed,
     ) -> Result<PartAnswer, AllocError>
         ensures left { IfOk result (KeepsWhatIsLeft self.now.slots.now self.now.after.now (part_of part.now) given.now) }
-        ensures sheds { IfOk result (λ left. Sheds given.now.singles.items left.singles.items gone.old.items gone.new.items) }
+        ensures sheds { IfOk result (λ left. Sheds given.now.singles.items left.singles.items gone.old.singles.items gone.new.singles.items) }
         ensures fewer { IfOk result (λ left. AreFewer (option_to_list given.now.series) (option_to_list left.series)) }
+        ensures loses { IfOk result (λ left. (history : List revisions.Part) → RepresentsHistory self.now.after.now history
+            → AddsLoss gone.old.recurs gone.new.recurs (option_to_list given.now.series) (option_to_list left.series)) }
     {
         let outcome = given.outcome.clone()?;
-        let singles = self.left_beside(part, &given.singles, gone)?;
+        let singles = self.left_beside(part, &given.singles, &mut gone.singles)?;
         let series = series_without(self.alloc, self.after, part, self.slots, &given.series)?;
+        gone.lose(hides_start(self.after, part, self.slots, &given.series));
         Ok(PartAnswer {
             slot: given.slot,
             moment: given.moment,

@@ -1,6 +1,6 @@
 //! Which instances of a part other parts in the view hide, and what is left of it.
 
-ghost use Rattle.std.specs.Prelude.{◌≡◌, ◌≢◌, false, List, Some, IfOk};
+ghost use Rattle.std.specs.Prelude.{◌≡◌, ◌≢◌, true, false, List, [], Some, IfOk};
 ghost use Rattle.std.specs.Option.{option_to_list};
 ghost use Rattle.itip_order.specs.Parts.{part_of, slot_of};
 ghost use Rattle.itip_order.specs.Registers.{RepresentsHistory};
@@ -10,8 +10,8 @@ ghost use Rattle.profile.specs.rooms.Revisions as revisions;
 ghost use Rattle.profile.specs.rooms.Rooms as rooms;
 ghost use Rattle.cal_events.specs.Series.{series_said};
 ghost use Rattle.room_books.specs.Gone.{IsPartOf};
-ghost use Rattle.room_books.specs.Taking.{is_hidden_by, left_in, part_instance, AreHiddenStarts, IsHiddenStart, IsSeriesLeft};
-ghost use Rattle.room_books.specs.Meeting.{AreFewer};
+ghost use Rattle.room_books.specs.Taking.{is_hidden_by, left_in, part_instance, AreHiddenStarts, HidesOneOf, IsHiddenStart, IsSeriesLeft};
+ghost use Rattle.room_books.specs.Meeting.{AreFewer, SaysLoss};
 
 use cal_events::{Series, Single};
 use itip_order::{Part, Slot, Together};
@@ -101,8 +101,10 @@ pub(crate) fn hides_start(
     slots: &[Slot],
     series: &Option<Series>,
 ) -> bool
-    ensures { result ≡ false → (history : List revisions.Part) → RepresentsHistory held.now history
+    ensures none { result ≡ false → (history : List revisions.Part) → RepresentsHistory held.now history
         → IsSeriesLeft (is_hidden_by slots.now history (part_of part.now)) series.now series.now }
+    ensures one { result ≡ true → (history : List revisions.Part) → RepresentsHistory held.now history
+        → HidesOneOf (is_hidden_by slots.now history (part_of part.now)) (option_to_list series.now) }
 {
     let Some(series) = series else {
         return false;
@@ -117,8 +119,10 @@ pub(crate) fn hides_start(
 
 /// Whether a part of this slot in the view hides a start of a part's series.
 fn hides_one(held: &Together<'_>, part: &Part, slot: Slot, series: &Series) -> bool
-    ensures { result ≡ false → (history : List revisions.Part) → RepresentsHistory held.now history → (booked : Instance) → IsInstance (series_said series.now) booked
+    ensures none { result ≡ false → (history : List revisions.Part) → RepresentsHistory held.now history → (booked : Instance) → IsInstance (series_said series.now) booked
         → slot_of slot ≡ revisions.At booked.key.slot → rooms.is_hidden history (part_of part.now) booked ≡ false }
+    ensures one { result ≡ true → (history : List revisions.Part) → RepresentsHistory held.now history
+        → (booked : Instance) × IsInstance (series_said series.now) booked × (slot_of slot ≡ revisions.At booked.key.slot) × (rooms.is_hidden history (part_of part.now) booked ≡ true) }
 {
     // Only for the proof: an instance of a series is known by its start.
     cal_events::known_by_start();
@@ -143,10 +147,26 @@ fn hidden_start(held: &Together<'_>, part: &Part, slot: Slot) -> Option<i64>
 
 /// Whether a series starts at an instant. It jumps there.
 fn has_start(series: &Series, start: i64) -> bool
-    ensures { result ≡ false → (booked : Instance) → IsInstance (series_said series.now) booked → booked.start ≢ start }
+    ensures none { result ≡ false → (booked : Instance) → IsInstance (series_said series.now) booked → booked.start ≢ start }
+    ensures one { result ≡ true → (booked : Instance) × IsInstance (series_said series.now) booked × (booked.start ≡ start) }
 {
     match series.starts(start).next() {
         Some(instance) => instance.start == start,
+        None => false,
+    }
+}
+
+/// Whether a series has an instance.
+pub(crate) fn has_instance(series: &Option<Series>) -> bool
+    ensures { SaysLoss result (option_to_list series.now) [] }
+{
+    let Some(series) = series else {
+        return false;
+    };
+    // Only for the proof: an instance of a series is known by its start.
+    cal_events::known_by_start();
+    match series.starts(i64::MIN).next() {
+        Some(_) => true,
         None => false,
     }
 }

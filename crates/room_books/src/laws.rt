@@ -9,11 +9,13 @@ ghost use Rattle.profile.specs.rooms.Messages.{Outcome};
 ghost use Rattle.profile.specs.rooms.Rooms.{PartAnswer, Book, Claim, Delivery, IsStep, Runs, empty_book, kind_of, IsWithinLimits, Confirms, confirmed_series, confirmed_singles};
 ghost use Rattle.profile.specs.streams.Streams.{AreInZones, IsDelivered, IsReached, AllAnswers, Box, Hosted, Config, new_box};
 ghost use Rattle.profile.specs.rooms.Kept.{IsKeptCalendar, IsKeptCertificate};
-ghost use Rattle.profile.specs.checker.Calendars.{CertificateHolds, SpellsCalendar};
+ghost use Rattle.profile.specs.checker.Calendars.{CalendarTextFault, CertificateHolds, SpellsCalendar};
+ghost use Rattle.profile.specs.checker.Naming.{IsOfOthers, IsOfRoom};
 ghost use Rattle.profile.specs.Headline.{AcceptedWhereClear, DeclineNamesClash};
 ghost use Rattle.itip_messages.specs.Law.{AreTextAnswers};
 
-use cal_events::one_calendar_text;
+use cal_events::{one_calendar_text, one_event};
+use ical_tree::one_tree;
 use ical_values::stamp::one_stamp;
 
 /// Whatever messages a room took, one after another from the first: no two of its confirmed instances of
@@ -76,6 +78,23 @@ pub fn kept_texts_spell()
         × (length all.singles ≡ length (confirmed_singles book)) × (length all.series ≡ length (confirmed_series book))
         × ((booked : Instance) → IsOneOf all booked ↔ Confirms book booked) }
 {
+    ical_lines::lines_read_back();
+    cal_zones::zone_reads_back();
+}
+
+/// `agenda` never refuses the kept calendar of a room, and counts nothing in it: an event of it names the room, or there is none; and each event
+/// that names the room is accepted or cancelled.
+pub fn kept_calendar_is_of_room()
+    ensures is { (room words : List ℕ) (zone : Option Zone) (book : Book) (calendar : List ℕ) → IsRoomZone words zone → IsReached room zone book
+        → IsKeptCalendar room words book calendar → IsOfRoom room calendar 0 }
+    ensures not_others { (room words : List ℕ) (zone : Option Zone) (book : Book) (calendar : List ℕ) → IsRoomZone words zone → IsReached room zone book
+        → IsKeptCalendar room words book calendar → IsOfOthers room calendar → ⊥ }
+    ensures reads { (room words : List ℕ) (zone : Option Zone) (book : Book) (calendar : List ℕ) → IsRoomZone words zone → IsReached room zone book
+        → IsKeptCalendar room words book calendar → (n : ℕ) → CalendarTextFault calendar n → ⊥ }
+{
+    one_tree();
+    one_event();
+    one_calendar_text();
     ical_lines::lines_read_back();
     cal_zones::zone_reads_back();
 }

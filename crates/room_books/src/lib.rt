@@ -22,8 +22,8 @@ mod timeline;
 
 pub use answer::{Answer, Kind, LimitKind};
 pub use laws::{
-    accepted_where_clear, answers_name_texts, answers_stay, kept_texts_pass, kept_texts_spell,
-    one_kept_calendar, runs_stay_clear, served_texts_pass,
+    accepted_where_clear, answers_name_texts, answers_stay, kept_calendar_is_of_room,
+    kept_texts_pass, kept_texts_spell, one_kept_calendar, runs_stay_clear, served_texts_pass,
 };
 pub use room::Room;
 pub use texts::KeptTexts;

@@ -1,7 +1,7 @@
 //! A room takes messages one after another. A message is taken whole or not at all: everything is computed
 //! beside the room, and put into it by the last step.
 
-ghost use Rattle.std.specs.Prelude.{◌≡◌, ◌≢◌, ◌⊎◌, ◌<◌, ◌≤◌, ◌+◌, ◌++◌, ℕ, List, [], Contains, length, map, IfOk, OnOk, OnErr, IsTrue, true, option_copied, if◌then◌else◌};
+ghost use Rattle.std.specs.Prelude.{◌≡◌, ◌≢◌, ◌⊎◌, ◌<◌, ◌≤◌, ◌+◌, ◌++◌, ℕ, List, [], Contains, length, map, IfOk, OnOk, OnErr, IsTrue, true, is_some, option_copied, if◌then◌else◌};
 ghost use Rattle.std.specs.Vec.{vec_len, vec_capacity};
 ghost use Rattle.std.specs.Map.{lookup};
 ghost use Rattle.indexmap.specs.IndexMap.{insert_index, IsUnchanged};
@@ -18,17 +18,17 @@ ghost use Rattle.profile.specs.streams.Streams.{AreClaims, IsDelivered, IsReache
 ghost use Rattle.profile.specs.Headline.{AcceptedWhereClear, DeclineNamesClash, KeptTextsPass};
 ghost use Rattle.profile.specs.checker.Calendars.{CertificateHolds};
 ghost use Rattle.profile.specs.rooms.Rooms as rooms;
-ghost use Rattle.profile.specs.rooms.Rooms.{Book, empty_book, is_accept};
+ghost use Rattle.profile.specs.rooms.Rooms.{Book, empty_book, is_accept, is_decision};
 ghost use Rattle.profile.specs.rooms.Kept.{IsKeptCalendar, IsKeptCertificate, Refreshes, Replies};
 ghost use Rattle.room_books.specs.Gone.{IsPartedInto, Shifts};
 ghost use Rattle.room_books.specs.Meeting.{same_key, all_confirmed, all_singles, outcome_of, confirmed_at, singles_by, others, AreAllApart, all_recurring, all_series, beside, in_room, series_at, series_by, AreFewer, AreRecurring, IsClearIn, MayJoin};
 ghost use Rattle.cal_events.specs.declared.instance.Single.{Single};
 ghost use Rattle.room_books.specs.Texts.{IsKeptBy, KeepsReached, SpellsConfirmed};
 ghost use Rattle.room_books.specs.Timeline.{IsTimelineOf};
-ghost use Rattle.room_books.specs.Taking.{answers_by, answers_then, claims_said, held_after, kept_then, kind_view, parts_said, refresh_octets, reply_octets, HasHistory, IsMadeOf, AreAnswersDecided, IsKindIn, MayJoinAll};
+ghost use Rattle.room_books.specs.Taking.{answers_by, answers_then, claims_said, frees_then, held_after, kept_then, kind_view, parts_said, refresh_octets, reply_octets, HasHistory, IsMadeOf, AreAnswersDecided, IsKindIn, MayJoinAll, SaysFreed};
 ghost use Rattle.room_books.specs.Slots.{AreAnswersBySlot};
 ghost use Rattle.room_books.specs.declared.answer.Kind.{Kind};
-ghost use Rattle.room_books.specs.Room.{is_of_meeting, HaveReached, Represents, StepsWith, AreFitting, IsMeetingAfter, IsOwn, Meets, IsPutIn, IsRenewed};
+ghost use Rattle.room_books.specs.Room.{is_of_meeting, HaveReached, Represents, StepsWith, AreFitting, IsMeetingAfter, IsOwn, Meets, IsPutIn, IsRenewed, TellsFreed};
 
 use crate::answer::{Answer, Kind};
 use crate::change::{Change, Views, held_with, parts_of};
@@ -86,6 +86,8 @@ struct Decided {
     added: Vec<Single>,
     /// None where none of its parts gets an answer now.
     outcome: Option<Outcome>,
+    /// Whether none of them does, and an instance that was confirmed isn't any more.
+    frees: bool,
 }
 
 impl Room {
@@ -133,8 +135,9 @@ impl Room {
     }
 
     /// Takes a message at a moment, and answers it: with a reply where one of its parts is to take place and is in the view; and with a
-    /// refresh where an ADD brought something new of a meeting of which nothing of the whole was ever taken (RFC 5546 3.2.6). One that is for an
-    /// organiser isn't addressed to a room, and changes nothing.
+    /// refresh where an ADD brought something new of a meeting of which nothing of the whole was ever taken (RFC 5546 3.2.6). Where it decides
+    /// nothing it tells whether an instance that was confirmed isn't any more. One that is for an organiser isn't addressed to a room, and changes
+    /// nothing.
     /// Where memory is refused nothing has changed.
     pub fn take(&mut self, message: &Message, now: Stamp) -> Result<Answer, AllocError>
         // From each book that the room represents, it is accepted exactly where something is asked and the room stays clear and within its limits.
@@ -147,12 +150,17 @@ impl Room {
         ensures steps { IfOk result (λ answer. (said : profile.Message) → RepresentsMessage message.now said → (book : Book) → Represents self.old.meetings.entries book
             → (claims : List rooms.Claim) × AreClaims (address_octets self.old.address) (room_of self.old.zone) said claims
             × StepsWith (address_octets self.old.address) self.new.meetings.entries book claims now (kind_view answer.kind) (reply_octets answer) (is_add said.method) (refresh_octets answer)) }
+        // Of the books that it represents before and after, it tells exactly where nothing is decided whether one instance isn't confirmed any more.
+        ensures frees { IfOk result (λ answer. (before after : Book) → Represents self.old.meetings.entries before → Represents self.new.meetings.entries after
+            → TellsFreed (kind_view answer.kind) answer.frees before after) }
         ensures address { self.new.address ≡ self.old.address }
         ensures zone { self.new.zone ≡ self.old.zone }
         ensures err { OnErr result (IsUnchanged self.old.meetings self.new.meetings) }
     {
         let claims = claims_of(self.alloc, message, &self.address, &self.zone)?;
         let Some(first) = claims.first() else {
+            // Only for the proof: no two meetings have one name.
+            keys_differ(&self.meetings);
             return Ok(Answer::silent(Kind::NotAddressed));
         };
         let key = MeetingKey::of(&first.part.organiser, &first.part.uid)?;
@@ -250,10 +258,14 @@ impl Room {
             × AreFitting key (claims_said claims.now) ∥₁ }
         ensures steps { IfOk result (λ answer. AreFitting key (claims_said claims.now) → (book : Book) → Represents self.old.meetings.entries book
             → StepsWith (address_octets self.old.address) self.new.meetings.entries book (claims_said claims.now) now (kind_view answer.kind) (reply_octets answer) adds (refresh_octets answer)) }
+        ensures frees { IfOk result (λ answer. (before after : Book) → Represents self.old.meetings.entries before → Represents self.new.meetings.entries after
+            → TellsFreed (kind_view answer.kind) answer.frees before after) }
         ensures address { self.new.address ≡ self.old.address }
         ensures zone { self.new.zone ≡ self.old.zone }
         ensures err { OnErr result (IsUnchanged self.old.meetings self.new.meetings) }
     {
+        // Only for the proof: no two meetings have one name.
+        keys_differ(&self.meetings);
         let parts = parts_of(self.alloc, claims)?;
         let (decided, answer) = self.answered(&key, claims, &parts, adds, now)?;
         let Decided {
@@ -261,8 +273,11 @@ impl Room {
             gone,
             added,
             outcome: _,
+            frees: _,
         } = decided;
         self.put(key, parts, changes, &gone, &added)?;
+        // Only for the proof: nor have any now.
+        keys_differ(&self.meetings);
         Ok(answer)
     }
 
@@ -297,6 +312,10 @@ impl Room {
             → HasHistory (lookup (same_key key.now) self.now.meetings.entries) before
             → RepresentsHistory (held_after (lookup (same_key key.now) self.now.meetings.entries) parts.now) after
             → Refreshes (address_octets self.now.address) adds before after (claims_said claims.now) now (refresh_octets done.1)) }
+        ensures frees { IfOk result (λ done. (history : List revisions.Part) → HasHistory (lookup (same_key key.now) self.now.meetings.entries) history
+            → SaysFreed (is_decision (kind_view done.1.kind)) done.1.frees
+            (singles_by (lookup (same_key key.now) self.now.meetings.entries)) (all_singles (answers_then (answers_by (lookup (same_key key.now) self.now.meetings.entries)) done.0.changes))
+            (series_by (lookup (same_key key.now) self.now.meetings.entries)) (all_series (answers_then (answers_by (lookup (same_key key.now) self.now.meetings.entries)) done.0.changes))) }
     {
         let Some(first) = claims.first() else {
             unreachable!()
@@ -320,6 +339,7 @@ impl Room {
             kind,
             reply,
             refresh,
+            frees: decided.frees,
         };
         Ok((decided, answer))
     }
@@ -359,6 +379,10 @@ impl Room {
             MayJoin (others key.now self.now.meetings.entries) key.now (all_singles (answers_then (answers_by (lookup (same_key key.now) self.now.meetings.entries)) decided.changes))) }
         ensures recurs { IfOk result (λ decided.
             MayJoinAll (beside key.now self.now.meetings.entries) key.now (answers_then (answers_by (lookup (same_key key.now) self.now.meetings.entries)) decided.changes)) }
+        ensures frees { IfOk result (λ decided. (history : List revisions.Part) → RepresentsHistory views.now.after.now history
+            → SaysFreed (is_some decided.outcome) decided.frees
+            (singles_by (lookup (same_key key.now) self.now.meetings.entries)) (all_singles (answers_then (answers_by (lookup (same_key key.now) self.now.meetings.entries)) decided.changes))
+            (series_by (lookup (same_key key.now) self.now.meetings.entries)) (all_series (answers_then (answers_by (lookup (same_key key.now) self.now.meetings.entries)) decided.changes))) }
     {
         // Only for the proof: no two meetings have one name.
         keys_differ(&self.meetings);
@@ -387,16 +411,21 @@ impl Room {
             MayJoin (others key.now self.now.meetings.entries) key.now (all_singles (answers_then (answers_by (lookup (same_key key.now) self.now.meetings.entries)) decided.changes))) }
         ensures recurs { IfOk result (λ decided.
             MayJoinAll (beside key.now self.now.meetings.entries) key.now (answers_then (answers_by (lookup (same_key key.now) self.now.meetings.entries)) decided.changes)) }
+        ensures frees { IfOk result (λ decided. decided.frees ≡ frees_then decided.outcome change.gone.items change.sheds) }
     {
         // Only for the proof: no two meetings have one name.
         keys_differ(&self.meetings);
         if asked.is_empty() {
-            let Change { lost, left, gone } = change;
+            let frees = change.frees();
+            let Change {
+                lost, left, gone, ..
+            } = change;
             return Ok(Decided {
                 changes: Changes::of(self.alloc, lost, left)?,
                 gone,
                 added: Vec::new(self.alloc),
                 outcome: None,
+                frees,
             });
         }
         let candidates = candidates(self.alloc, held, asked, now)?;
@@ -411,7 +440,9 @@ impl Room {
         let outcome = deciding.decide(&candidates, &singles)?;
         let mut new = decided(self.alloc, candidates, &outcome)?;
         let added = added_by(self.alloc, &outcome, singles);
-        let Change { lost, left, gone } = change;
+        let Change {
+            lost, left, gone, ..
+        } = change;
         let mut coming = left;
         coming.append(&mut new)?;
         let changes = Changes::of(self.alloc, lost, coming)?;
@@ -420,6 +451,7 @@ impl Room {
             gone,
             added,
             outcome: Some(outcome),
+            frees: false,
         })
     }
 

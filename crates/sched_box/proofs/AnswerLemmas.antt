@@ -22,13 +22,13 @@ use Rattle.profile.specs.streams.Reports.{AllBecome, is_change, is_repeat, is_st
 use Rattle.profile.specs.streams.Streams.{AllTake, AreClaims, Hosted, TakesMessage, refused_line}
 use Rattle.profile.specs.streams.Worlds as worlds
 use Rattle.profile.specs.streams.Worlds.{ChangesOne}
-use Rattle.room_books.specs.Room.{Represents, StepsWith}
+use Rattle.room_books.specs.Room.{Represents, StepsWith, TellsFreed}
 use Rattle.room_books.specs.declared.room.Room.{Room}
-use Rattle.sched_box.specs.Answering.{room_addresses, AreHosted, IsHosted, RoomSends, RoomTakes, RoomsSend, RoomsTake, sent_octets}
+use Rattle.sched_box.specs.Answering.{room_addresses, AllTell, AreHosted, IsHosted, RoomSends, RoomTakes, RoomsSend, RoomsTake, sent_octets}
 use Rattle.sched_box.specs.Asked.{asks}
-use Rattle.sched_box.specs.Journal.{AreEffects}
+use Rattle.sched_box.specs.Journal.{AddsEffect, AreEffects, InRoom, kinds_of}
 use Rattle.sched_box.specs.declared.journal.Effects.{Effects}
-use Rattle.sched_box.proofs.AskedLemmas.{left_out}
+use Rattle.sched_box.proofs.AskedLemmas.{left_out, passed}
 use Rattle.sched_box.proofs.HostLemmas.{none_hosted, one_behind}
 
 -- ---- one room
@@ -72,11 +72,12 @@ room_sends moment message old new kind reply refresh steps same same_zone said r
     )
 
 -- it answers with the octets of what it sends, and what became of it goes by the same step
-pub room_takes : (moment : ℤ) (message : Message) (old new : Room) (kind : machine.Kind) (reply refresh : Option (List ℕ))
+pub room_takes : (moment : ℤ) (message : Message) (old new : Room) (kind : machine.Kind) (frees : Bool) (reply refresh : Option (List ℕ))
     → ((said : profile.Message) → RepresentsMessage message said → (book : Book) → Represents old.meetings.entries book
     → (claims : List Claim) × AreClaims (address_octets old.address) (room_of old.zone) said claims × StepsWith (address_octets old.address) new.meetings.entries book claims moment kind reply (is_add said.method) refresh)
-    → new.address ≡ old.address → new.zone ≡ old.zone → RoomTakes moment message old new (sent_octets reply ++ sent_octets refresh) kind
-room_takes moment message old new kind reply refresh steps same same_zone said represented before has =
+    → ((before after : Book) → Represents old.meetings.entries before → Represents new.meetings.entries after → TellsFreed kind frees before after)
+    → new.address ≡ old.address → new.zone ≡ old.zone → RoomTakes moment message old new (sent_octets reply ++ sent_octets refresh) (record { kind = kind; frees = frees })
+room_takes moment message old new kind frees reply refresh steps tells same same_zone said represented before has =
     let room = address_octets old.address in
     let (claims, are, with') = steps said represented before.book has.represents in
     let P : List ℕ → Type 0 = λ a. AreClaims a (room_of old.zone) said claims in
@@ -108,6 +109,7 @@ room_takes moment message old new kind reply refresh steps same same_zone said r
         is = sent_is reply refresh;
       },
       record { claims = claims; are = of_room; outcome = with'.steps.outcome; step = with'.steps.step; is = with'.steps.kind_is },
+      tells before.book with'.steps.after has.represents with'.steps.represents,
     )
 
 -- ---- the room in its place
@@ -155,7 +157,7 @@ unsent moment message to rooms sent none nothing said represented before have =
 
 -- ---- all rooms
 
-pub rooms_push : (moment : ℤ) (message : Message) (olds news : List Room) (old new : Room) (octets first : List ℕ) (kinds : List machine.Kind) (kind : machine.Kind)
+pub rooms_push : (moment : ℤ) (message : Message) (olds news : List Room) (old new : Room) (octets first : List ℕ) (kinds : List InRoom) (kind : InRoom)
     → RoomsTake moment message olds news octets kinds → new.address ≡ old.address → RoomTakes moment message old new first kind
     → RoomsTake moment message (olds ++ old ∷ []) (news ++ new ∷ []) (octets ++ first) (kinds ++ kind ∷ [])
 rooms_push moment message [] [] old new octets first kinds kind (none, nothing) same t =
@@ -165,31 +167,37 @@ rooms_push moment message (o ∷ os) [] old new octets first kinds kind r same t
 rooms_push moment message (o ∷ os) (n ∷ ns) old new octets first kinds kind (one, rest, this, those, is, are, here, takes, others) same t =
     (one, rest ++ first, this, those ++ kind ∷ [], ap (λ z. z ++ first) is ∙ append_assoc one rest first, ap (λ z. z ++ kind ∷ []) are, here, takes, rooms_push moment message os ns old new rest first those kind others same t)
 
-pub same_addresses : (moment : ℤ) (message : Message) (olds news : List Room) (octets : List ℕ) (kinds : List machine.Kind) → RoomsTake moment message olds news octets kinds → room_addresses news ≡ room_addresses olds
+pub same_addresses : (moment : ℤ) (message : Message) (olds news : List Room) (octets : List ℕ) (kinds : List InRoom) → RoomsTake moment message olds news octets kinds → room_addresses news ≡ room_addresses olds
 same_addresses moment message [] [] octets kinds r = refl
 same_addresses moment message [] (n ∷ ns) octets kinds r = absurd r
 same_addresses moment message (o ∷ os) [] octets kinds r = absurd r
 same_addresses moment message (o ∷ os) (n ∷ ns) octets kinds (one, rest, this, those, is, are, here, takes, others) =
     ap (λ a. address_octets a ∷ room_addresses ns) here ∙ ap (λ z. address_octets o.address ∷ z) (same_addresses moment message os ns rest those others)
 
-pub all_take : (moment : ℤ) (message : Message) (said : profile.Message) → RepresentsMessage message said → (olds news : List Room) (octets : List ℕ) (kinds : List machine.Kind) → RoomsTake moment message olds news octets kinds
-    → (before : List Hosted) → AreHosted olds before → (after : List Hosted) × AreHosted news after × AllTake moment said before after octets × AllBecome moment said before after kinds
-all_take moment message said represented [] [] octets kinds (none, nothing) [] h = ([], tt, none, nothing)
+pub all_take : (moment : ℤ) (message : Message) (said : profile.Message) → RepresentsMessage message said → (olds news : List Room) (octets : List ℕ) (kinds : List InRoom) → RoomsTake moment message olds news octets kinds
+    → (before : List Hosted) → AreHosted olds before
+    → (after : List Hosted) × AreHosted news after × AllTake moment said before after octets × AllBecome moment said before after (kinds_of kinds) × AllTell kinds before after
+all_take moment message said represented [] [] octets kinds (none, nothing) [] h = ([], tt, none, ap kinds_of nothing, subst (λ l. AllTell l [] []) (sym nothing) tt)
 all_take moment message said represented [] [] octets kinds r (b ∷ bs) h = absurd h
 all_take moment message said represented [] (n ∷ ns) octets kinds r before h = absurd r
 all_take moment message said represented (o ∷ os) [] octets kinds r before h = absurd r
 all_take moment message said represented (o ∷ os) (n ∷ ns) octets kinds r [] h = absurd h
 all_take moment message said represented (o ∷ os) (n ∷ ns) octets kinds (one, rest, this, those, is, are, here, takes, others) (b ∷ bs) h =
-    let (after, has, first, became) = takes said represented b h.0 in
-    let (afters, have, more, became_more) = all_take moment message said represented os ns rest those others bs h.1 in
-    (after ∷ afters, (has, have), (one, rest, is, first, more), (this, those, are, became, became_more))
+    let (after, has, first, became, tells) = takes said represented b h.0 in
+    let (afters, have, more, became_more, all_tell) = all_take moment message said represented os ns rest those others bs h.1 in (
+      after ∷ afters,
+      (has, have),
+      (one, rest, is, first, more),
+      (this.kind, kinds_of those, ap kinds_of are, became, became_more),
+      subst (λ l. AllTell l (b ∷ bs) (after ∷ afters)) (sym are) (tells, all_tell),
+    )
 
 -- ---- the loop over the rooms
 
 -- the first rooms have taken the message
 pub record TakenSofar (moment : ℤ) (message : Message) (olds news : List Room) (i : ℕ) (before after : List ℕ) (effects : Effects) : Type 0 where
   pub octets : List ℕ
-  pub kinds : List machine.Kind
+  pub kinds : List InRoom
   pub is : after ≡ before ++ octets
   pub takes : RoomsTake moment message (take i olds) (take i news) octets kinds
   pub are : AreEffects kinds effects
@@ -203,9 +211,9 @@ within_olds i m n l e = omega arith
 before_next : (i : ℕ) → i < i + 1
 before_next i = omega arith
 
-pub taken_more : (moment : ℤ) (message : Message) (olds news : List Room) (i : ℕ) (before mid after : List ℕ) (d new : Room) (first : List ℕ) (kind : machine.Kind) (effects more : Effects)
+pub taken_more : (moment : ℤ) (message : Message) (olds news : List Room) (i : ℕ) (before mid after : List ℕ) (d new : Room) (first : List ℕ) (kind : InRoom) (effects more : Effects)
     → TakenSofar moment message olds news i before mid effects → i < length news → new.address ≡ (get_or news i d).address
-    → RoomTakes moment message (get_or news i d) new first kind → after ≡ mid ++ first → ((kinds : List machine.Kind) → AreEffects kinds effects → AreEffects (kinds ++ kind ∷ []) more)
+    → RoomTakes moment message (get_or news i d) new first kind → after ≡ mid ++ first → ((kinds : List InRoom) → AreEffects kinds effects → AreEffects (kinds ++ kind ∷ []) more)
     → TakenSofar moment message olds (set news i new) (i + 1) before after more
 taken_more moment message olds news i before mid after d new first kind effects more so l same takes is adds =
     let l' : i < length olds = within_olds i (length olds) (length news) l so.long in
@@ -228,7 +236,7 @@ taken_more moment message olds news i before mid after d new first kind effects 
     }
 
 pub taken_all : (moment : ℤ) (message : Message) (olds news : List Room) (i : ℕ) (before after : List ℕ) (effects : Effects) → TakenSofar moment message olds news i before after effects
-    → length news ≤ i → (more : List ℕ) × (kinds : List machine.Kind) × (after ≡ before ++ more) × RoomsTake moment message olds news more kinds × AreEffects kinds effects
+    → length news ≤ i → (more : List ℕ) × (kinds : List InRoom) × (after ≡ before ++ more) × RoomsTake moment message olds news more kinds × AreEffects kinds effects
 taken_all moment message olds news i before after effects so end =
     let long = so.long in
     let P : List Room → List Room → Type 0 = λ a b. RoomsTake moment message a b so.octets so.kinds in
@@ -252,20 +260,24 @@ next_as_was moment message olds news i before after d effects so l =
 
 -- ---- what became of it, with a room more
 
-pub effects_more : (kinds : List machine.Kind) (kind : machine.Kind) (old new : Effects) → new.changed ≡ (old.changed || is_change kind) → new.repeated ≡ (old.repeated || is_repeat kind) → new.stale ≡ (old.stale || is_stale kind)
-    → AreEffects kinds old → AreEffects (kinds ++ kind ∷ []) new
-effects_more kinds kind old new changed repeated stale are = record {
-  changed = changed ∙ ap (λ b. b || is_change kind) are.changed ∙ sym (any_last is_change kinds kind);
-  repeated = repeated ∙ ap (λ b. b || is_repeat kind) are.repeated ∙ sym (any_last is_repeat kinds kind);
-  stale = stale ∙ ap (λ b. b || is_stale kind) are.stale ∙ sym (any_last is_stale kinds kind);
+pub effects_more : (one : InRoom) (old new : Effects) → new.changed ≡ (old.changed || is_change one.kind) → new.repeated ≡ (old.repeated || is_repeat one.kind) → new.stale ≡ (old.stale || is_stale one.kind)
+    → new.frees ≡ (old.frees || one.frees) → AddsEffect old one new
+effects_more one old new changed repeated stale frees all are = record {
+  changed = changed ∙ ap (λ b. b || is_change one.kind) are.changed ∙ sym (any_kind is_change);
+  repeated = repeated ∙ ap (λ b. b || is_repeat one.kind) are.repeated ∙ sym (any_kind is_repeat);
+  stale = stale ∙ ap (λ b. b || is_stale one.kind) are.stale ∙ sym (any_kind is_stale);
+  frees = frees ∙ ap (λ b. b || one.frees) are.frees ∙ sym (any_last (λ (x : InRoom). x.frees) all one);
 }
   where
-    any_last : (p : machine.Kind → Bool) (ks : List machine.Kind) (k : machine.Kind) → list_any p (ks ++ k ∷ []) ≡ (list_any p ks || p k)
+    any_last : {X : Type 0} (p : X → Bool) (ks : List X) (k : X) → list_any p (ks ++ k ∷ []) ≡ (list_any p ks || p k)
     any_last p ks k = list_any-append p ks (k ∷ []) ∙ ap (λ b. list_any p ks || b) (or-false (p k))
 
+    any_kind : (p : machine.Kind → Bool) → list_any p (kinds_of (all ++ one ∷ [])) ≡ (list_any p (kinds_of all) || p one.kind)
+    any_kind p = ap (list_any p) (map-append (λ (x : InRoom). x.kind) all (one ∷ [])) ∙ any_last p (kinds_of all) one.kind
+
 -- it isn't addressed to that one
-passed_over : (kinds : List machine.Kind) (effects : Effects) → AreEffects kinds effects → AreEffects (kinds ++ machine.NotAddressed ∷ []) effects
-passed_over kinds effects are = effects_more kinds machine.NotAddressed effects effects (sym (or-false _)) (sym (or-false _)) (sym (or-false _)) are
+passed_over : (effects : Effects) → AddsEffect effects passed effects
+passed_over effects = effects_more passed effects effects (sym (or-false _)) (sym (or-false _)) (sym (or-false _)) (sym (or-false _))
 
 -- a room that the message isn't for is passed over
 pub taken_left : (moment : ℤ) (message : Message) (olds news : List Room) (i : ℕ) (before mid : List ℕ) (d : Room) (effects : Effects) → TakenSofar moment message olds news i before mid effects → i < length news
@@ -274,7 +286,7 @@ taken_left moment message olds news i before mid d effects so l none =
     let l' : i < length olds = within_olds i (length olds) (length news) l so.long in
     let f : Room → List ℕ = λ room. address_octets room.address in
     let here : get_or (room_addresses olds) i [] ≡ f (get_or news i d) = get_or-map f olds i d [] l' ∙ sym (ap f (next_as_was moment message olds news i before mid d effects so l)) in
-    taken_more moment message olds news i before mid mid d (get_or news i d) [] machine.NotAddressed effects effects so l refl (left_out moment message (get_or news i d) (subst (λ a. asks message a ≡ false) here none)) (sym (append-nil mid)) (λ kinds are. passed_over kinds effects are)
+    taken_more moment message olds news i before mid mid d (get_or news i d) [] passed effects effects so l refl (left_out moment message (get_or news i d) (subst (λ a. asks message a ≡ false) here none)) (sym (append-nil mid)) (passed_over effects)
 
 -- ---- the line for a refusal
 

@@ -27,6 +27,7 @@ use Rattle.profile.specs.rooms.Rooms.{IsStep, NotAddressed}
 use Rattle.profile.specs.series.Zones.{Zone}
 use Rattle.profile.specs.streams.Streams.{AreClaims, IsClaim}
 use Rattle.room_books.specs.declared.room.Room.{Room}
+use Rattle.sched_box.specs.Journal.{InRoom}
 use Rattle.sched_box.specs.Answering.{RoomTakes}
 use Rattle.sched_box.specs.Asked.{AddsAddress, LeavesOut, asks, names}
 use Rattle.sched_box.proofs.HostLemmas.{any_turned, untrue}
@@ -234,8 +235,12 @@ none_claimed room zone said off = record {
   };
 }
 
+-- what becomes of it there
+abbrev pub passed : InRoom
+passed = record { kind = NotAddressed; frees = false }
+
 -- it takes no parts, and answers nothing
-pub left_out : (moment : ℤ) (message : Message) (room : Room) → asks message (address_octets room.address) ≡ false → RoomTakes moment message room room [] NotAddressed
+pub left_out : (moment : ℤ) (message : Message) (room : Room) → asks message (address_octets room.address) ≡ false → RoomTakes moment message room room [] passed
 left_out moment message room none said represented before has =
     let a = address_octets room.address in
     let off : is_addressed a said ≡ false = sym (addressed a message said represented) ∙ ap (λ b. is_to_rooms (method_said message.method) && b) none ∙ and-false _ in
@@ -260,4 +265,5 @@ left_out moment message room none said represented before has =
         is = refl;
       },
       record { claims = []; are = are; outcome = Accept; step = step; is = refl },
+      record { undecided = λ t. absurd (false≢true t); freed = λ t. absurd (false≢true t); kept = λ f d b c. c },
     )

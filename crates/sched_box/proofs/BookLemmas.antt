@@ -9,18 +9,20 @@ use Rattle.itip_messages.specs.Message.{IsSpelled, RepresentsMessage}
 use Rattle.itip_messages.specs.declared.message.Message.{Message}
 use Rattle.profile.specs.events.Messages as profile
 use Rattle.profile.specs.events.Messages.{is_to_rooms}
-use Rattle.profile.specs.rooms.Rooms.{Kind}
+use Rattle.profile.specs.rooms.Messages.{is_cancel}
 use Rattle.profile.specs.streams.Reports as reports
-use Rattle.profile.specs.streams.Reports.{Becomes, Fate, Taken, fate_of}
+use Rattle.profile.specs.streams.Reports.{Becomes, Fate, Taken}
 use Rattle.profile.specs.streams.Streams.{HostedOrganiser, IsTaken, ObjectFault, StepsFor, refused_line}
 use Rattle.profile.specs.streams.Worlds as worlds
 use Rattle.profile.specs.streams.Worlds.{ChangesOne}
 use Rattle.sched_box.specs.Answering.{AreHosted, RoomsTake}
 use Rattle.sched_box.specs.Books.{AnswersKeptAs, KeepAll, RefusesKept, TakesKept}
+use Rattle.sched_box.specs.Journal.{InRoom, fate_in, kinds_of}
 use Rattle.sched_box.specs.Objects.{kept_of}
 use Rattle.sched_box.specs.Organising.{AreKeptBy, KeepBooks, OrganisersRefuse, OrganisersTake}
 use Rattle.sched_box.specs.declared.books.Books.{Books}
 use Rattle.sched_box.proofs.AnswerLemmas.{all_take}
+use Rattle.sched_box.proofs.FateLemmas.{is_fate}
 use Rattle.sched_box.proofs.ToldLemmas.{as_refused, as_taken}
 
 -- ---- what is taken
@@ -29,12 +31,13 @@ use Rattle.sched_box.proofs.ToldLemmas.{as_refused, as_taken}
 goes_to : (message : Message) (said : profile.Message) (b : Bool) → RepresentsMessage message said → is_to_rooms (method_said message.method) ≡ b → is_to_rooms said.method ≡ b
 goes_to message said b represented to = sym (ap is_to_rooms represented.method) ∙ to
 
-pub rooms_taken : (moment : ℤ) (kept : List ℕ) (message : Message) (old new : Books) (octets : List ℕ) (kinds : List Kind) (fate : Fate)
+pub rooms_taken : (moment : ℤ) (kept : List ℕ) (message : Message) (old new : Books) (octets : List ℕ) (kinds : List InRoom) (fate : Fate)
     → ((object : List ℕ) → kept ≡ kept_of object → IsSpelled object message) → is_to_rooms (method_said message.method) ≡ true → RoomsTake moment message old.rooms.rooms.items new.rooms.rooms.items octets kinds
-    → fate ≡ fate_of kinds → new.organisers ≡ old.organisers → TakesKept moment kept old new octets fate
+    → fate ≡ fate_in (is_cancel (method_said message.method)) kinds → new.organisers ≡ old.organisers → TakesKept moment kept old new octets fate
 rooms_taken moment kept message old new octets kinds fate spelled to takes fate_is same object is before have =
     let (said, spells, represented) = spelled object is in
-    let (after, hosted, all, became) = all_take moment message said represented old.rooms.rooms.items new.rooms.rooms.items octets kinds takes before.rooms have.rooms in
+    let (after, hosted, all, became, tells) = all_take moment message said represented old.rooms.rooms.items new.rooms.rooms.items octets kinds takes before.rooms have.rooms in
+    let told = is_fate moment said kinds before.rooms after fate became tells (fate_is ∙ ap (λ m. fate_in (is_cancel m) kinds) represented.method) in
     let goes = sym (goes_to message said true represented to) in (
       record { rooms = after; organisers = before.organisers },
       record { rooms = hosted; organisers = subst (λ o. AreKeptBy o.organisers.items before.organisers) (sym same) have.organisers },
@@ -42,7 +45,7 @@ rooms_taken moment kept message old new octets kinds fate spelled to takes fate_
         said,
         spells,
         subst (λ b. StepsFor b moment said before (record { rooms = after; organisers = before.organisers }) octets) goes (all, refl),
-        subst (λ b. Becomes b moment said before (record { rooms = after; organisers = before.organisers }) fate) goes (kinds, became, fate_is),
+        subst (λ b. Becomes b moment said before (record { rooms = after; organisers = before.organisers }) fate) goes (kinds_of kinds, became, told),
       ),
     )
 

@@ -1,6 +1,7 @@
 pub mod AnswerLemmas
 pub mod AskedLemmas
 pub mod BookLemmas
+pub mod FateLemmas
 pub mod FaultLemmas
 pub mod FolderLemmas
 pub mod HostLemmas

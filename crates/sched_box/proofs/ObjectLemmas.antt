@@ -1,9 +1,8 @@
 -- Where the octets of an object lead, and what follows it.
-use Rattle.std.proofs.Common.{◌≡◌, ℕ, zero, suc, ◌+◌, ◌-◌, ◌<◌, ◌≤◌, min, Bool, true, false, cond, nat_lt, List, [], ◌∷◌, ◌++◌, length, take, drop, get_or, Option, Some, None, IfSome, OnSome, refl, sym, ap, subst, ◌∙◌, arith, length-drop, length-take, length-take-le, take-take, true≢false, take-append-drop, get_or-take}
+use Rattle.std.proofs.Common.{◌≡◌, inl, ℕ, zero, suc, ◌+◌, ◌-◌, ◌<◌, ◌≤◌, min, Bool, true, false, cond, nat_lt, List, [], ◌∷◌, ◌++◌, length, take, drop, get_or, Option, Some, None, IfSome, OnSome, refl, sym, ap, subst, ◌∙◌, arith, length-drop, length-take, length-take-le, take-take, true≢false, get_or-take}
 use Rattle.std.proofs.Math.Seq.{take-add}
 use Rattle.std.proofs.lemmas.Bool.Decides.{nat_tests}
-use Rattle.std.proofs.lemmas.List.{append-nil, append_assoc, append_cancel_left, drop_more, take_more}
-use Rattle.std.specs.Io.{StartsWith}
+use Rattle.std.proofs.lemmas.List.{append-nil, append_assoc, drop_more, take_more}
 use Rattle.std.specs.Io.KnownBytes.{Consumes, IsAtEnd}
 use Rattle.profile.specs.text.Objects.{is_begun, after_object}
 use Rattle.ical_lines.specs.Cut.{ChangeNothing, rest_after, begun_after, ends_before, step, fresh}
@@ -15,7 +14,10 @@ use Rattle.sched_box.specs.declared.fault.ServeFault.TheVariants.{Read, Write, T
 use Rattle.sched_box.specs.declared.objects.Objects.{Objects}
 use Rattle.sched_box.specs.declared.objects.Piece.{Piece}
 use Rattle.sched_box.specs.declared.objects.Piece.TheVariants.{Ended, Goes, End}
-use Rattle.sched_box.specs.Objects.{kept_of, Cuts, IsPieceEnd, IsPieceFault, LeavesMore, LendsAfter, piece_of, TakesNextObject, IsStop, StopsReading}
+use Rattle.std.specs.Io.KnownBytes.{prepend_known}
+use Rattle.std.proofs.KnownBytes.{starts_with_rest}
+use Rattle.sched_devices.specs.Input.{MayFollow}
+use Rattle.sched_box.specs.Objects.{kept_of, Cuts, IsPieceEnd, IsPieceFault, LeavesMore, LendsNext, LendsNothing, piece_of, TakesNextObject, IsStop, StopsReading}
 
 -- ---- leading on
 
@@ -90,35 +92,27 @@ kept_more k old new taken more is e = e ∙ ap (λ z. z ++ take (k - length z) m
 
 -- ---- a piece
 
--- the octet that a reader lent after those that were taken comes next
-next_lent : (a c : Option (List ℕ)) (lent : List ℕ) (count : ℕ) → count < length lent → IfSome a (λ xs. StartsWith xs lent) → Consumes a c (take count lent)
-    → IfSome a (λ _. IfSome c (λ ys. (more : List ℕ) × (ys ≡ get_or lent count 0 ∷ more)))
-next_lent None c lent count l front h = tt
-next_lent (Some xs) None lent count l front h = absurd h
-next_lent (Some xs) (Some ys) lent count l front h = (drop (count + 1) lent ++ drop (length lent) xs, append_cancel_left (take count lent) ys _ (sym h ∙ whole))
-  where
-    whole : xs ≡ take count lent ++ (get_or lent count 0 ∷ (drop (count + 1) lent ++ drop (length lent) xs))
-    whole =
-        sym (take-append-drop (length lent) xs) ∙ ap (λ z. z ++ drop (length lent) xs) front
-        ∙ ap (λ z. z ++ drop (length lent) xs) (sym (take-append-drop count lent) ∙ ap (λ z. take count lent ++ z) (drop_more lent count 0 l))
-        ∙ append_assoc (take count lent) (get_or lent count 0 ∷ drop (count + 1) lent) (drop (length lent) xs)
-
-pub piece_end : (a c : Option (List ℕ)) (lent : List ℕ) (most count left : ℕ) (ended : Bool) (cutter : Cutter) → most ≡ min (length lent) left → 0 < left
+-- the octet that a reader lent after those that were taken is lent still
+pub piece_end : (lent rest : List ℕ) (has_ended : Bool) (most count left : ℕ) (ended : Bool) (cutter : Cutter) → most ≡ min (length lent) left → 0 < left
     → count ≤ length (take most lent) → (ended ≡ true → count < length (take most lent)) → (ended ≡ true → ends_before cutter (get_or (take most lent) count 0) ≡ true)
-    → (ended ≡ false → count ≡ length (take most lent)) → IfSome a (λ xs. StartsWith xs lent)
-    → Consumes a c (take count lent) × (length lent ≡ 0 → OnSome a (IsAtEnd c)) → IsPieceEnd a c cutter (take count (take most lent)) (piece_of count ended)
-piece_end a c lent most count left true cutter most_is some within before ends all front moved =
+    → (ended ≡ false → count ≡ length (take most lent)) → rest ≡ drop count lent → (length lent ≡ 0 → has_ended ≡ true)
+    → IsPieceEnd rest has_ended cutter (take count (take most lent)) (piece_of count ended)
+piece_end lent rest has_ended most count left true cutter most_is some within before ends all rest_is end =
     let l = before refl in
     let long : length (take most lent) ≡ most = length-take-le most lent (omega arith) in
     let same : get_or (take most lent) count 0 ≡ get_or lent count 0 = get_or-take most lent count 0 (omega arith) in
-    (get_or lent count 0, ap (ends_before cutter) (sym same) ∙ ends refl, next_lent a c lent count (omega arith) front moved.0)
-piece_end a c lent most count left false cutter most_is some within before ends all front moved = at (nat_lt 0 count) refl
+    (get_or lent count 0, drop (count + 1) lent, rest_is ∙ drop_more lent count 0 (omega arith), ap (ends_before cutter) (sym same) ∙ ends refl)
+piece_end lent rest has_ended most count left false cutter most_is some within before ends all rest_is end = at (nat_lt 0 count) refl
   where
     P : Bool → Type 0
-    P b = IsPieceEnd a c cutter (take count (take most lent)) (cond b Goes End)
+    P b = IsPieceEnd rest has_ended cutter (take count (take most lent)) (cond b Goes End)
 
     nothing : (n m : ℕ) → 0 < m → min n m ≡ 0 → n ≡ 0
     nothing n m h e = omega arith
+
+    none_of : (xs : List ℕ) → length xs ≡ 0 → xs ≡ []
+    none_of [] e = refl
+    none_of (x ∷ xs) e = absurd (omega arith)
 
     at : (b : Bool) → nat_lt 0 count ≡ b → P b
     at true e =
@@ -129,7 +123,8 @@ piece_end a c lent most count left false cutter most_is some within before ends 
         let h : count ≡ 0 = grind (arith, nat_tests) in
         let long : length (take most lent) ≡ most = length-take-le most lent (omega arith) in
         let same = all refl in
-        moved.1 (nothing (length lent) left some (sym most_is ∙ sym long ∙ sym same ∙ h))
+        let none : length lent ≡ 0 = nothing (length lent) left some (sym most_is ∙ sym long ∙ sym same ∙ h) in
+        (rest_is ∙ none_of (drop count lent) (omega (arith, length-drop count lent)), end none)
 
 pub same_piece : (lent : List ℕ) (most count : ℕ) → count ≤ length (take most lent) → take count (take most lent) ≡ take count lent
 same_piece lent most count within = take-take count most lent (omega (arith, length-take most lent))
@@ -139,16 +134,26 @@ left_over lent most count left is within =
     let long = length-take-le count (take most lent) within in
     omega (arith, length-take most lent)
 
--- what comes next comes next of the whole, too
-pub ends_from : (a b c : Option (List ℕ)) (taken more : List ℕ) (cutter : Cutter) → Consumes a b taken → IsPieceEnd b c cutter more Ended → IsPieceEnd a c cutter [] Ended
-ends_from None b c taken more cutter h (next, ends, comes) = (next, ends, tt)
-ends_from (Some xs) None c taken more cutter h n = absurd h
-ends_from (Some xs) (Some ys) c taken more cutter h n = n
+-- ---- what may follow
 
-pub end_from : (a b c : Option (List ℕ)) (taken : List ℕ) → Consumes a b taken → OnSome b (IsAtEnd c) → OnSome a (IsAtEnd c)
-end_from None b c taken h e = tt
-end_from (Some xs) None c taken h e = absurd h
-end_from (Some xs) (Some ys) c taken h e = e
+-- the object ends before an octet that comes next
+abbrev pub EndsBeforeNext : Option (List ℕ) → Option (List ℕ) → Cutter → Type 0
+EndsBeforeNext old new cutter = (next : ℕ) × (ends_before cutter next ≡ true) × IfSome old (λ _. IfSome new (λ rest. (more : List ℕ) × (rest ≡ next ∷ more)))
+
+-- the octet that is lent comes next, whatever follows
+pub ends_next : (taken part lent : List ℕ) (has_ended : Bool) (cutter : Cutter) (left : Option (List ℕ)) → IfSome left (MayFollow lent has_ended) → IsPieceEnd lent has_ended cutter part Ended
+    → EndsBeforeNext (prepend_known taken left) left cutter
+ends_next taken part lent has_ended cutter None follows (next, more, is, ends) = (next, ends, tt)
+ends_next taken part lent has_ended cutter (Some xs) follows (next, more, is, ends) =
+    (next, ends, (more ++ drop (length lent) xs, starts_with_rest xs lent follows.begins ∙ ap (λ z. z ++ drop (length lent) xs) is))
+
+-- nothing follows where the input has ended and nothing is lent
+pub nothing_next : (taken lent : List ℕ) (has_ended : Bool) (left : Option (List ℕ)) → IfSome left (MayFollow lent has_ended) → LendsNothing lent has_ended → OnSome (prepend_known taken left) (IsAtEnd left)
+nothing_next taken lent has_ended None follows none = tt
+nothing_next taken lent has_ended (Some xs) follows none = follows.ends none.1 ∙ none.0
+
+pub lends_next : (lent : List ℕ) (has_ended : Bool) (cutter : Cutter) (taken : List ℕ) → IsPieceEnd lent has_ended cutter taken Ended → LendsNext lent has_ended
+lends_next lent has_ended cutter taken (next, more, is, ends) = inl (subst (λ (z : List ℕ). 0 < length z) (sym is) (omega arith))
 
 pub piece_stops : (f : ServeFault) (left : ℕ) → IsPieceFault f → 0 < left → IsStop f left
 piece_stops Read left h some = some
@@ -168,20 +173,9 @@ leaves_more lent most count left false most_is some within before = at (nat_lt 0
     at true e = tt
     at false e = let none : count ≡ 0 = grind (arith, nat_tests) in omega arith
 
--- where the object ended, the octet before which it did is lent still
-pub lends_after : (lent rest : List ℕ) (most count : ℕ) (ended : Bool) → rest ≡ drop count lent → (ended ≡ true → count < length (take most lent)) → LendsAfter (length rest) (piece_of count ended)
-lends_after lent rest most count true is before =
-    let l = before refl in
-    omega (arith, ap length is, length-drop count lent, length-take most lent)
-lends_after lent rest most count false is before = at (nat_lt 0 count)
-  where
-    at : (b : Bool) → LendsAfter (length rest) (cond b Goes End)
-    at true = tt
-    at false = tt
-
 -- what a piece that goes on takes
-pub goes_some : (a b : Option (List ℕ)) (cutter : Cutter) (taken : List ℕ) (piece : Piece) → piece ≡ Goes → IsPieceEnd a b cutter taken piece → 0 < length taken
-goes_some a b cutter taken piece is ends = subst (IsPieceEnd a b cutter taken) is ends
+pub goes_some : (lent : List ℕ) (has_ended : Bool) (cutter : Cutter) (taken : List ℕ) (piece : Piece) → piece ≡ Goes → IsPieceEnd lent has_ended cutter taken piece → 0 < length taken
+goes_some lent has_ended cutter taken piece is ends = subst (IsPieceEnd lent has_ended cutter taken) is ends
 
 -- ---- an object
 
@@ -203,7 +197,7 @@ module _ (a b : Option (List ℕ)) (taken : List ℕ) (cutter : Cutter) (consume
       at (x ∷ xs) h = omega arith
 
   -- the object ended before an octet
-  pub whole_object : (kept : List ℕ) → kept ≡ kept_of taken → IsPieceEnd a b cutter [] Ended → TakesNextObject a b kept true taken
+  pub whole_object : (kept : List ℕ) → kept ≡ kept_of taken → EndsBeforeNext a b cutter → TakesNextObject a b kept true taken
   whole_object kept kept_is (next, ends, comes) = record {
     consumed = consumed;
     kept_is = kept_is;

@@ -1,15 +1,19 @@
 -- Where the octets of a preamble lead, and where it ends.
-use Rattle.std.proofs.Common.{◌≡◌, ◌⊎◌, inl, inr, ℕ, ℤ, ◌+◌, ◌<◌, ◌≤◌, Bool, true, false, cond, eqb, List, [], ◌∷◌, ◌++◌, length, Option, Some, None, IfSome, OnSome, zero, suc, min, take, get_or, nat_lt, ◌&&◌, not, length-take, length-take-le, take-take, refl, sym, ap, subst, ◌∙◌, arith, length-append, true≢false}
+use Rattle.std.proofs.Common.{◌≡◌, ◌⊎◌, inl, inr, ℕ, ℤ, ◌+◌, ◌-◌, ◌<◌, ◌≤◌, Bool, true, false, cond, eqb, List, [], ◌∷◌, ◌++◌, length, Option, Some, None, IfSome, OnSome, zero, suc, min, take, drop, get_or, nat_lt, ◌&&◌, not, length-drop, length-take, length-take-le, refl, sym, ap, subst, ◌∙◌, arith, length-append, true≢false}
 use Rattle.std.proofs.lemmas.Bool.{false_from_ne_true}
 use Rattle.std.proofs.lemmas.Bool.Decides.{nat_tests}
 use Rattle.memchr.specs.Find.{IsFirstByte, is_byte}
 use Rattle.std.proofs.lemmas.List.{append_assoc, append_cancel_right, get_or-take, take_all, take_more}
-use Rattle.std.specs.Io.KnownBytes.{Consumes, IsAtEnd}
-use Rattle.std.proofs.KnownBytes.{Consumes-trans}
+use Rattle.std.specs.Io.KnownBytes.{Consumes, IsAtEnd, prepend_known}
 use Rattle.profile.specs.streams.Streams.{Setting, SaysSettings, by_end, by_lf, by_crlf, last, with_lf, with_crlf, Config, IsPreamble}
 use Rattle.sched_box.specs.declared.preamble.LineState.{LineState}
 use Rattle.sched_box.specs.declared.preamble.LineState.TheVariants.{Start, Return, Inside, Closed}
-use Rattle.sched_box.specs.Preamble.{is_closed, next_place, place_after, rest_of, Leads, TakesPreamblePiece, TakesPreamble, IsLong, OpensStream, OpensNot, StopsInPreamble}
+use Rattle.sched_box.specs.Preamble.{is_closed, next_place, place_after, rest_of, Leads, TakesPreamblePiece, TakesPreamble, IsLong, OpensNothing, OpensStream, OpensNot, StopsInPreamble}
+use Rattle.sched_box.specs.Objects.{LendsNothing}
+use Rattle.sched_box.specs.declared.fault.ServeFault.{ServeFault}
+use Rattle.sched_box.proofs.ObjectLemmas.{nothing_next}
+use Rattle.sched_devices.specs.Input.{IsFilledWithin, MayFollow}
+use Rattle.sched_devices.proofs.InputLemmas.{consumes_back}
 use Rattle.sched_box.specs.declared.fault.StreamFault.{StreamFault}
 use Rattle.sched_box.specs.declared.fault.StreamFault.TheVariants.{Refused, Serve}
 use Rattle.ical_lines.specs.declared.fault.Fault.{Fault}
@@ -194,16 +198,14 @@ too_long (Some xs) (Some ys) octets place c l long =
 -- ---- a piece
 
 -- what is taken of what a reader lends, of which at most this many octets are looked at
-pub piece : (a c : Option (List ℕ)) (lent : List ℕ) (most count : ℕ) (from to : LineState) (goes : Bool) → count ≤ length (take most lent) → most ≡ min (length lent) 65_537
-    → Consumes a c (take count lent) × (length lent ≡ 0 → OnSome a (IsAtEnd c)) → Leads from (take count (take most lent)) to
+pub piece : (lent left : List ℕ) (has_ended : Bool) (most count : ℕ) (from to : LineState) (goes : Bool) → count ≤ length (take most lent) → most ≡ min (length lent) 65_537
+    → left ≡ drop count lent → (length lent ≡ 0 → has_ended ≡ true) → Leads from (take count (take most lent)) to
     → (is_closed from ≡ false → 0 < length (take most lent) → 0 < count) → goes ≡ (nat_lt 0 count && not (is_closed to))
-    → TakesPreamblePiece a c from to (take count (take most lent)) goes
-piece a c lent most count from to goes within most_is moved leads some goes_is =
-    let same : take count (take most lent) ≡ take count lent = take-take count most lent (omega (arith, length-take most lent)) in
+    → TakesPreamblePiece left has_ended from to (take count (take most lent)) goes
+piece lent left has_ended most count from to goes within most_is left_is end leads some goes_is =
     let long : length (take most lent) ≡ most = length-take-le most lent (omega arith) in
     let count_is : length (take count (take most lent)) ≡ count = length-take-le count (take most lent) within in
     record {
-      consumed = subst (Consumes a c) (sym same) moved.0;
       leads = leads;
       stops = λ e. stop (is_closed from) refl (is_closed to) refl (sym goes_is ∙ e);
       some = λ e. goes_some (is_closed to) (sym (goes_is ∙ refl) ∙ e) count_is;
@@ -238,32 +240,41 @@ piece a c lent most count from to goes within most_is moved leads some goes_is =
     no_lent : count ≡ 0 → (0 < length (take most lent) → 0 < count) → length lent ≡ 0
     no_lent none h = nothing (length (take most lent)) h none (length-take-le most lent (omega arith))
 
-    stop : (f : Bool) → is_closed from ≡ f → (t : Bool) → is_closed to ≡ t → (nat_lt 0 count && not (is_closed to)) ≡ false → (to ≡ Closed) ⊎ OnSome a (IsAtEnd c)
+    none_of : (xs : List ℕ) → length xs ≡ 0 → xs ≡ []
+    none_of [] e = refl
+    none_of (x ∷ xs) e = absurd (omega arith)
+
+    stop : (f : Bool) → is_closed from ≡ f → (t : Bool) → is_closed to ≡ t → (nat_lt 0 count && not (is_closed to)) ≡ false → (to ≡ Closed) ⊎ LendsNothing left has_ended
     stop f fe true te e = inl (closed_to to te)
     stop true fe false te e =
         let none : count ≡ 0 = zero_count (ap (λ b. nat_lt 0 count && not b) (sym te) ∙ e) in
         inl (sym (none_taken none) ∙ closed_to from fe)
     stop false fe false te e =
         let none : count ≡ 0 = zero_count (ap (λ b. nat_lt 0 count && not b) (sym te) ∙ e) in
-        inr (moved.1 (no_lent none (some fe)))
+        let nothing_lent : length lent ≡ 0 = no_lent none (some fe) in
+        inr (left_is ∙ none_of (drop count lent) (omega (arith, nothing_lent, length-drop count lent)), end nothing_lent)
 
 -- the last piece
-pub taken_all : (a b c : Option (List ℕ)) (octets taken : List ℕ) (place to : LineState) (goes : Bool) → Consumes a b octets → Leads Start octets place → TakesPreamblePiece b c place to taken goes → goes ≡ false → TakesPreamble a c (octets ++ taken)
-taken_all a b c octets taken place to goes consumed leads t e = record {
+pub taken_all : (lent : List ℕ) (has_ended : Bool) (octets taken : List ℕ) (place to : LineState) (goes : Bool) → Leads Start octets place → TakesPreamblePiece lent has_ended place to taken goes → goes ≡ false
+    → (left : Option (List ℕ)) → IfSome left (MayFollow lent has_ended) → TakesPreamble (prepend_known (octets ++ taken) left) left (octets ++ taken)
+taken_all lent has_ended octets taken place to goes leads t e left follows = record {
   place = to;
-  consumed = Consumes-trans a b c octets taken consumed t.consumed;
+  consumed = consumes_back (octets ++ taken) left;
   leads = leads_trans Start place to octets taken leads t.leads;
   stops = at (t.stops e);
 }
   where
-    before : (a b c : Option (List ℕ)) → Consumes a b octets → OnSome b (IsAtEnd c) → OnSome a (IsAtEnd c)
-    before None b c h end = tt
-    before (Some xs) None c h end = absurd h
-    before (Some xs) (Some ys) c h end = end
-
-    at : (to ≡ Closed) ⊎ OnSome b (IsAtEnd c) → (to ≡ Closed) ⊎ OnSome a (IsAtEnd c)
+    at : (to ≡ Closed) ⊎ LendsNothing lent has_ended → (to ≡ Closed) ⊎ OnSome (prepend_known (octets ++ taken) left) (IsAtEnd left)
     at (inl closes) = inl closes
-    at (inr end) = inr (before a b c consumed end)
+    at (inr none) = inr (nothing_next (octets ++ taken) lent has_ended left follows none)
+
+-- the reader was filled seldom
+pub filled_once : (a c : Option (List ℕ)) (octets : List ℕ) (fills spent lent : ℕ) → Consumes a c octets → spent ≤ fills + (1 - lent) + length octets → IsFilledWithin 1 fills spent a c
+filled_once None c octets fills spent lent consumed few = tt
+filled_once (Some xs) None octets fills spent lent consumed few = absurd consumed
+filled_once (Some xs) (Some ys) octets fills spent lent consumed few =
+    let split : length xs ≡ length octets + length ys = ap length consumed ∙ length-append octets ys in
+    omega arith
 
 -- ---- no octet past the empty line was taken
 
@@ -281,9 +292,34 @@ stops a b octets place consumed l = record { taken = octets; consumed = consumed
 pub stops_after : (a b : Option (List ℕ)) (octets : List ℕ) → TakesPreamble a b octets → StopsInPreamble a b
 stops_after a b octets t = stops a b octets t.place t.consumed t.leads
 
-pub long_stream : (a : Option (List ℕ)) (f : StreamFault) → IfRefusedStream (IfSome a IsLong) f → IfRefusedStream (IfSome a OpensNot) f
-long_stream a (Refused r) h = long_not_known a h
-long_stream a (Serve f) h = tt
+-- where the reader failed or memory was refused
+pub stopped_reading : (octets : List ℕ) (place : LineState) (fault : StreamFault) (serve : ServeFault) → fault ≡ Serve serve → Leads Start octets place → (left : Option (List ℕ)) → OpensNothing fault (prepend_known octets left) left
+stopped_reading octets place fault serve is leads left =
+    subst (λ f. OpensNothing f (prepend_known octets left) left) (sym is) (stops (prepend_known octets left) left octets place (consumes_back octets left) leads)
+
+-- where the preamble is too long
+pub stopped_long : (octets : List ℕ) (place : LineState) → Leads Start octets place → 65_536 < length octets → (left : Option (List ℕ))
+    → IfSome (prepend_known octets left) OpensNot × StopsInPreamble (prepend_known octets left) left
+stopped_long octets place leads long left =
+    let all = prepend_known octets left in
+    let consumed = consumes_back octets left in
+    (long_not_known all (too_long all left octets place consumed leads long), stops all left octets place consumed leads)
+
+-- of octets of which nothing is known nothing is said
+pub any_opened : (moment : ℤ) (hosts : Config) (left : Option (List ℕ)) → OpensStream None None moment hosts → OpensStream None left moment hosts
+any_opened moment hosts left opens = record { preamble = opens.preamble; closed = opens.closed; consumed = tt; says = opens.says; all = λ e. tt }
+
+pub any_nothing : (fault : StreamFault) (left : Option (List ℕ)) → OpensNothing fault None None → OpensNothing fault None left
+any_nothing (Refused refusal) left (none, stop) = (tt, record { taken = stop.taken; consumed = tt; within = tt })
+any_nothing (Serve fault) left stop = record { taken = stop.taken; consumed = tt; within = tt }
+
+pub nothing_stops : (fault : StreamFault) (a b : Option (List ℕ)) → OpensNothing fault a b → StopsInPreamble a b
+nothing_stops (Refused refusal) a b h = h.1
+nothing_stops (Serve fault) a b h = h
+
+pub nothing_refuses : (fault : StreamFault) (a b : Option (List ℕ)) → OpensNothing fault a b → IfRefusedStream (IfSome a OpensNot) fault
+nothing_refuses (Refused refusal) a b h = h.0
+nothing_refuses (Serve fault) a b h = tt
 
 pub refused_is : (P : Type 0) (f : Fault) (r : Refusal) → f ≡ fault.Refused r → IfRefused P f → P
 refused_is P fault.Memory r e h = absurd (cc)

@@ -1,5 +1,5 @@
 -- The objects and answers so far, against those of the whole stream.
-use Rattle.std.proofs.Common.{◌≡◌, ◌⊎◌, inl, inr, ℕ, ℤ, Bool, ◌+◌, ◌-◌, ◌<◌, ◌≤◌, true, false, List, [], ◌∷◌, ◌++◌, length, take, Option, Some, None, IfSome, OnSome, IfOk, Result, Ok, Err, refl, sym, ap, subst, ◌∙◌, arith, length-append, Contains, true≢false}
+use Rattle.std.proofs.Common.{◌≡◌, ◌⊎◌, inl, inr, ℕ, ℤ, Bool, ◌+◌, ◌-◌, ◌<◌, ◌≤◌, true, false, List, [], ◌∷◌, ◌++◌, length, take, Option, Some, None, IfSome, OnSome, IfOk, IfErr, Result, Ok, Err, refl, sym, ap, subst, ◌∙◌, arith, length-append, Contains, true≢false}
 use Rattle.std.proofs.lemmas.List.{append_assoc, append-nil}
 use Rattle.std.specs.Io.KnownBytes.{Appends, Consumes, Keeps, IsAtEnd}
 use Rattle.std.proofs.KnownBytes.{Appends-kept, Appends-nil, Appends-trans, Keeps-refl}
@@ -15,15 +15,17 @@ use Rattle.sched_box.specs.declared.serving.ServeReport.{ServeReport}
 use Rattle.sched_box.specs.Answering.{IsHosted}
 use Rattle.sched_box.specs.Books.{AnswersKept, AnswersKeptAs, AreBooksOf, hosted_rooms}
 use Rattle.sched_box.specs.declared.books.Books.{Books}
-use Rattle.sched_devices.specs.Input.{IsFilledWithin}
-use Rattle.sched_box.specs.Objects.{kept_of, IsStop, TakesNextObject, ReadsObject, StopsReading}
-use Rattle.sched_box.specs.Serving.{Ends, Gives, GivesPart, GivesRead, IsWithin, IsWithinBound, ServesAll, ServesSome, HasRead, ServesUntil, Serves, BooksServe, KeepsTexts, StopsKeeping, StopsWithin, TellsAll}
+use Rattle.sched_devices.specs.Input.{IsFilledWithin, MayFollow}
+use Rattle.sched_box.specs.Objects.{kept_of, IsStop, LendsNext, TakesNextObject, ReadsObject, StopsReading}
+use Rattle.sched_box.specs.Serving.{Ends, Gives, GivesPart, GivesRead, IsWithin, IsWithinBound, ServesAll, ServesSome, HasRead, ServesUntil, AnswersWhole, ServesCut, Serves, ServesBooks, ServesStream, BooksServe, KeepsTexts, StopsKeeping, StopsWithin, TellsAll, TellsStream}
+use Rattle.sched_box.specs.Preamble.{OpensNothing, OpensStream}
+use Rattle.sched_box.specs.declared.fault.StreamFault.{StreamFault}
 use Rattle.profile.specs.rooms.Kept.{IsKeptCalendar, IsKeptCertificate}
 use Rattle.cal_zones.specs.RoomZones.{words_of}
 use Rattle.ical_values.specs.Octets.{address_octets}
 use Rattle.room_books.specs.Room.{Represents}
 use Rattle.sched_box.specs.declared.fault.StreamFault.TheVariants as stream
-use Rattle.sched_box.specs.Faults.{StopsFor}
+use Rattle.sched_box.specs.Faults.{IsReadFault, StopsFor}
 use Rattle.sched_box.specs.Sending.{StopsSending}
 use Rattle.cal_events.proofs.shared_lemmas.SeriesLemmas.{zip_with}
 use Rattle.sched_box.proofs.ObjectLemmas.{after_short}
@@ -123,13 +125,27 @@ HasLeft most None left may_read = Unit {0}
 HasLeft most (Some octets) None may_read = ⊥
 HasLeft most (Some octets) (Some rest) may_read = length octets + may_read ≡ length rest + most
 
--- from whatever the books were; the rooms keep their addresses, and this many octets were read
+-- from whatever the books were, and this many octets were read
 pub record Sofar (most : ℕ) (moment : ℤ) (olds news : Books) (input left output written : Option (List ℕ)) (may_read : ℕ) (report : ServeReport) : Type 0 where
   pub served : (before : Box) → AreBooksOf olds before → ServedSofar moment news input left output written before report
-  pub addresses : hosted_rooms news ≡ hosted_rooms olds
   pub read : HasLeft most input left may_read
+
+-- the rooms keep their addresses, and each object has an octet
+pub record Counted (most : ℕ) (olds news : Books) (may_read : ℕ) (report : ServeReport) : Type 0 where
+  pub addresses : hosted_rooms news ≡ hosted_rooms olds
   pub few : report.objects + may_read ≤ most
   pub refusals : report.refused ≤ report.objects
+
+pub counted_more : (most : ℕ) (olds news newer : Books) (b c : Option (List ℕ)) (before after : Objects) (report next : ServeReport) (number one : ℕ) → Counted most olds news before.left report → ReadsObject b c before after true
+    → number ≡ report.objects + 1 → one ≤ 1 → hosted_rooms newer ≡ hosted_rooms news → next.objects ≡ number → next.refused ≡ report.refused + one → Counted most olds newer after.left next
+counted_more most olds news newer b c before after report next number one so (taken, t, left, rest) number_is small same objects_are refused_are =
+    let few = so.few in
+    let refusals = so.refusals in
+    let some = t.some refl in
+    record { addresses = same ∙ so.addresses; few = omega arith; refusals = omega arith }
+
+pub reads_less : (b c : Option (List ℕ)) (before after : Objects) → ReadsObject b c before after true → after.left < before.left
+reads_less b c before after (taken, t, left, rest) = let some = t.some refl in omega arith
 
 gives_nothing : (a : Option (List ℕ)) → Gives a a []
 gives_nothing None = tt
@@ -148,10 +164,7 @@ none_served most moment books input output report may_read no_objects no_refused
     counted = no_objects;
     writes = Appends-nil output;
   };
-  addresses = refl;
   read = unread input;
-  few = omega arith;
-  refusals = omega arith;
 }
   where
     unread : (a : Option (List ℕ)) → HasLeft most a a may_read
@@ -394,12 +407,9 @@ unsent most moment olds news newer a b c output written now failed before after 
 -- one more object
 pub served_more : (most : ℕ) (moment : ℤ) (olds news newer : Books) (a b c output written new : Option (List ℕ)) (before after : Objects) (report next : ServeReport) (number one : ℕ) (more : List ℕ)
     → Sofar most moment olds news a b output written before.left report → ReadsObject b c before after true → number ≡ report.objects + 1
-    → AnswersKept moment number after.octets.items news newer more one → one ≤ 1 → hosted_rooms newer ≡ hosted_rooms news → Appends written new more
+    → AnswersKept moment number after.octets.items news newer more one → Appends written new more
     → next.objects ≡ number → next.refused ≡ report.refused + one → Sofar most moment olds newer a c output new after.left next
-served_more most moment olds news newer a b c output written new before after report next number one more so (taken, t, left, rest) number_is answers small same appended objects_are refused_are =
-    let few = so.few in
-    let refusals = so.refusals in
-    let some = t.some refl in
+served_more most moment olds news newer a b c output written new before after report next number one more so (taken, t, left, rest) number_is answers appended objects_are refused_are =
     record {
       served = λ start have.
           let served = so.served start have in
@@ -418,10 +428,7 @@ served_more most moment olds news newer a b c output written new before after re
             counted = objects_are ∙ numbered ∙ sym (length-append served.objects (taken ∷ []));
             writes = Appends-trans output written new served.octets more served.writes appended;
           };
-      addresses = same ∙ so.addresses;
       read = read_on most a b c taken before.left after.left so.read t.consumed left;
-      few = omega arith;
-      refusals = omega arith;
     }
 
 -- no object is left
@@ -470,6 +477,45 @@ serves_none moment before input output fault is =
     none (Some xs) = (xs, [], refl, refl, after_short xs)
 
 -- ---- a stream with its preamble
+
+pub stream_none : (fault : StreamFault) (input left output : Option (List ℕ)) → IsReadFault fault → OpensNothing fault input left
+    → ServesStream (record { input = input; left = left; output = output; written = output }) (Err fault)
+stream_none (stream.Refused refusal) input left output may h = (h.0, h.1, Keeps-refl output)
+stream_none (stream.Serve fault) input left output may h = inl (may, h, Keeps-refl output)
+
+-- a preamble was read, and then its objects were served
+module _ (moment : ℤ) (hosts : Config) (a b c output written : Option (List ℕ)) (opens : OpensStream a b moment hosts) where
+  pub stream_until : (fault : ServeFault) → Serves moment (new_box hosts) (record { input = b; left = c; output = output; written = written }) (Err fault)
+      → ServesStream (record { input = a; left = c; output = output; written = written }) (Err (stream.Serve fault))
+  stream_until fault h = inr (moment, hosts, b, opens, h)
+
+  pub stream_all : (report : ServeReport) → Serves moment (new_box hosts) (record { input = b; left = c; output = output; written = written }) (Ok report)
+      → ServesStream (record { input = a; left = c; output = output; written = written }) (Ok report)
+  stream_all report (after, all) = (moment, hosts, b, after, opens, all)
+
+  pub stream_told : {Told : Type 0} (Tells : Told → ℕ → List ℕ → Fate → Told → Type 0) (old new : Told) (report : ServeReport)
+      → (after : Box) × TellsAll Tells old new moment (new_box hosts) after (record { input = b; left = c; output = output; written = written }) report
+      → TellsStream Tells old new (record { input = a; left = c; output = output; written = written }) report
+  stream_told Tells old new report (after, tells) = record { moment = moment; hosts = hosts; rest = b; after = after; opens = opens; tells = tells }
+
+-- what was written answers the whole stream
+pub stream_whole : (input left output written : Option (List ℕ)) (report : ServeReport) → ServesStream (record { input = input; left = left; output = output; written = written }) (Ok report)
+    → AnswersWhole (record { input = input; left = left; output = output; written = written })
+stream_whole None left output written report h = tt
+stream_whole (Some octets) left output written report (moment, hosts, None, after, opens, all) = absurd opens.consumed
+stream_whole (Some octets) left output written report (moment, hosts, Some rest, after, opens, all) = (
+  all.octets,
+  record {
+    moment = moment;
+    hosts = hosts;
+    objects = all.objects;
+    after = after;
+    refused = report.refused;
+    is = record { preamble = opens.preamble; rest = rest; closed = opens.closed; is = opens.consumed; says = opens.says; all = opens.all; objects_are = all.are };
+    answers = all.answers;
+  },
+  all.written,
+)
 
 -- ---- one room
 
@@ -589,3 +635,91 @@ pub tells_from : {Told : Type 0} (Tells : Told → ℕ → List ℕ → Fate →
     → IfOk r (λ report. (after : Box) × AreBooksOf news after × TellsAll Tells old now moment before after ends report) → IfOk r (λ report. (after : Box) × TellsAll Tells old now moment before after ends report)
 tells_from Tells old now moment before news ends (Ok report) (after, hosted, tells) = (after, tells)
 tells_from Tells old now moment before news ends (Err fault) h = tt
+
+-- ---- of octets that came, and those that are left
+
+-- the octet after the object comes next, or nothing does
+pub next_or_end : (lent : List ℕ) (has_ended : Bool) (b c : Option (List ℕ)) (taken : List ℕ) → Consumes b c taken → IfSome c (MayFollow lent has_ended) → LendsNext lent has_ended
+    → (0 < length lent) ⊎ OnSome b (IsAtEnd c)
+next_or_end lent has_ended b c taken consumed follows (inl some) = inl some
+next_or_end lent has_ended b c taken consumed follows (inr none) = inr (at b c consumed follows)
+  where
+    at : (b c : Option (List ℕ)) → Consumes b c taken → IfSome c (MayFollow lent has_ended) → OnSome b (IsAtEnd c)
+    at None c consumed follows = tt
+    at (Some xs) None consumed follows = absurd consumed
+    at (Some xs) (Some ys) consumed follows = follows.ends none.1 ∙ none.0
+
+-- the objects so far were served, and told of
+pub record HaveServed {Told : Type 0} (Tells : Told → ℕ → List ℕ → Fate → Told → Type 0) (told now : Told) (most : ℕ) (moment : ℤ) (olds news : Books) (output written : Option (List ℕ)) (may_read : ℕ) (report : ServeReport)
+    (lent paid start : ℕ) (input left : Option (List ℕ)) : Type 0 where
+  pub sofar : Sofar most moment olds news input left output written may_read report
+  pub between : IsBetween input left report.objects lent paid start
+  pub tells : TellsSofar Tells told now moment olds news input left output written report
+
+-- of octets of which nothing is known nothing is said
+module _ {Told : Type 0} (Tells : Told → ℕ → List ℕ → Fate → Told → Type 0) (told_old told_new : Told) (most : ℕ) (moment : ℤ) (output written : Option (List ℕ)) (left : Option (List ℕ)) where
+  abbrev of_none : Ends
+  of_none = record { input = None; left = None; output = output; written = written }
+
+  abbrev of_any : Ends
+  of_any = record { input = None; left = left; output = output; written = written }
+
+  any_all : (before after : Box) (report : ServeReport) → ServesAll most moment before after of_none report → ServesAll most moment before after of_any report
+  any_all before after report all =
+      record { objects = all.objects; octets = all.octets; are = tt; end = tt; answers = all.answers; counted = all.counted; bound = tt; written = all.written }
+
+  any_read : (before : Box) → ServesSome GivesRead moment before of_none → ServesSome GivesRead moment before of_any
+  any_read before some = record { objects = some.objects; after = some.after; octets = some.octets; refused = some.refused; gives = tt; answers = some.answers; written = some.written }
+
+  any_part : (before : Box) → ServesSome GivesPart moment before of_none → ServesSome GivesPart moment before of_any
+  any_part before some = record { objects = some.objects; after = some.after; octets = some.octets; refused = some.refused; gives = tt; answers = some.answers; written = some.written }
+
+  any_cut : (before : Box) → ServesCut moment before of_none → ServesCut moment before of_any
+  any_cut before h = record {
+    objects = h.objects;
+    last = h.last;
+    mid = h.mid;
+    after = h.after;
+    octets = h.octets;
+    answer = h.answer;
+    refused = h.refused;
+    one = h.one;
+    cut = h.cut;
+    gives = tt;
+    answers = h.answers;
+    answered = h.answered;
+    some = h.some;
+    written = h.written;
+  }
+
+  any_until : (before : Box) (fault : ServeFault) → ServesUntil most moment before of_none fault → ServesUntil most moment before of_any fault
+  any_until before Read h = (any_read before h.0, tt)
+  any_until before Memory h = (any_part before h.0, tt)
+  any_until before TooLong h = (any_read before h.0, tt)
+  any_until before Write h = (any_cut before h.0, tt)
+
+  any_books : (before : Box) (news : Books) (r : Result ServeReport ServeFault) → BooksServe most moment before news of_none r → BooksServe most moment before news of_any r
+  any_books before news (Ok report) (after, hosted, all) = (after, hosted, any_all before after report all)
+  any_books before news (Err fault) h = any_until before fault h
+
+  any_tells : (before : Box) (news : Books) (r : Result ServeReport ServeFault) → IfOk r (λ report. (after : Box) × AreBooksOf news after × TellsAll Tells told_old told_new moment before after of_none report)
+      → IfOk r (λ report. (after : Box) × AreBooksOf news after × TellsAll Tells told_old told_new moment before after of_any report)
+  any_tells before news (Ok report) (after, hosted, all) =
+      (after, hosted, record { objects = all.objects; octets = all.octets; fates = all.fates; are = tt; answers = all.answers; written = all.written; told = all.told; counted = all.counted })
+  any_tells before news (Err fault) h = tt
+
+  any_bound : (r : Result ServeReport ServeFault) → IfErr r (StopsWithin most None left)
+  any_bound (Ok report) = tt
+  any_bound (Err Read) = tt
+  any_bound (Err Memory) = tt
+  any_bound (Err TooLong) = tt
+  any_bound (Err Write) = tt
+
+  pub any_served : (olds news : Books) (fills_old fills_new : ℕ) (r : Result ServeReport ServeFault) → ServesBooks Tells told_old told_new most moment olds news fills_old fills_new output written r None None
+      → ServesBooks Tells told_old told_new most moment olds news fills_old fills_new output written r None left
+  any_served olds news fills_old fills_new r h = record {
+    serves = λ before have. any_books before news r (h.serves before have);
+    tells = λ before have. any_tells before news r (h.tells before have);
+    fills = tt;
+    bound = any_bound r;
+  }

@@ -2,7 +2,7 @@
 use Rattle.std.proofs.Common.{◌≡◌, ◌≤◌, ◌+◌, ◌∷◌, ◌++◌, ◌∙◌, ℕ, ℤ, Bool, true, false, if◌then◌else◌, List, [], length, inl, inr, refl, sym, ap, subst, arith}
 use Rattle.std.proofs.lemmas.List.{append_assoc, append-nil}
 use Rattle.profile.specs.events.Messages.{Message, SpellsMessage, is_to_rooms}
-use Rattle.profile.specs.streams.Reports.{Fate, Refused, Unreached, Stale, Repeated, Taken, AllAnswersAs, AllTold, AnswersAs, Becomes, refusals}
+use Rattle.profile.specs.streams.Reports.{Fate, Refused, Unreached, Stale, Repeated, CancelsNothing, Taken, AllAnswersAs, AllTold, AnswersAs, Becomes, refusals}
 use Rattle.profile.specs.streams.Streams.{Box, IsRefusedWith, Steps, refused_line}
 
 pub at_most_one : (fate : Fate) → refusals fate ≤ 1
@@ -10,12 +10,14 @@ at_most_one (Refused n) = omega arith
 at_most_one Unreached = omega arith
 at_most_one Stale = omega arith
 at_most_one Repeated = omega arith
+at_most_one CancelsNothing = omega arith
 at_most_one Taken = omega arith
 
 -- ---- one object
 
 none_refused : (moment : ℤ) (message : Message) (before after : Box) (fate : Fate) (to_rooms : Bool) → Becomes to_rooms moment message before after fate → refusals fate ≡ 0
-none_refused moment message before after fate true (kinds, all, is) = ap refusals is ∙ never _ _ _
+none_refused moment message before after fate true (kinds, all, inl is) = ap refusals is.1
+none_refused moment message before after fate true (kinds, all, inr is) = ap refusals is.1 ∙ never _ _ _
   where
     never : (a b c : Bool) → refusals (if a then Taken else (if b then Repeated else (if c then Stale else Unreached))) ≡ 0
     never true b c = refl

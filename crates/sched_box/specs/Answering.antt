@@ -8,15 +8,15 @@ use Rattle.ical_values.specs.Octets.{address_octets}
 use Rattle.itip_messages.specs.Message.{RepresentsMessage}
 use Rattle.itip_messages.specs.declared.message.Message.{Message}
 use Rattle.profile.specs.events.Messages as profile
-use Rattle.profile.specs.rooms.Rooms.{Kind}
 use Rattle.profile.specs.streams.Reports.{BecomesThere}
 use Rattle.profile.specs.streams.Streams.{Hosted, Takes, TakesMessage, ZonedRoom, new_room}
 use Rattle.profile.specs.streams.Worlds as worlds
 use Rattle.profile.specs.streams.Worlds.{ChangesOne, rooms_once}
-use Rattle.room_books.specs.Room.{Represents}
+use Rattle.room_books.specs.Room.{Represents, TellsFreed}
 use Rattle.room_books.specs.Taking.{refresh_octets, reply_octets}
 use Rattle.room_books.specs.declared.answer.Answer.{Answer}
 use Rattle.room_books.specs.declared.room.Room.{Room}
+use Rattle.sched_box.specs.Journal.{InRoom}
 
 -- the addresses of the rooms, in order
 abbrev pub room_addresses : List Room → List (List ℕ)
@@ -62,18 +62,25 @@ RoomsSend to moment message olds news sent =
     ⊎ ((list_any (λ host. bytes_eq host.address to) before ≡ false) × (after ≡ before) × (sent ≡ [])))
 
 -- a room takes the message and answers these octets, from whatever it represents, and this became of it there
-abbrev pub RoomTakes : ℤ → Message → Room → Room → List ℕ → Kind → Type 0
-RoomTakes moment message old new octets kind =
+abbrev pub RoomTakes : ℤ → Message → Room → Room → List ℕ → InRoom → Type 0
+RoomTakes moment message old new octets one =
     (said : profile.Message) → RepresentsMessage message said → (before : Hosted) → IsHosted old before
-    → (after : Hosted) × IsHosted new after × Takes moment said before after octets × BecomesThere moment said before after kind
+    → (after : Hosted) × IsHosted new after × Takes moment said before after octets × BecomesThere moment said before after one.kind
+    × TellsFreed one.kind one.frees before.book after.book
 
 -- each room takes it in turn; their answers follow one another, and so does what became of it
-abbrev pub RoomsTake : ℤ → Message → List Room → List Room → List ℕ → List Kind → Type 0
-RoomsTake moment message [] [] octets kinds = (octets ≡ []) × (kinds ≡ [])
-RoomsTake moment message (old ∷ olds) (new ∷ news) octets kinds =
-    (first : List ℕ) × (rest : List ℕ) × (kind : Kind) × (others : List Kind) × (octets ≡ first ++ rest) × (kinds ≡ kind ∷ others)
-    × (new.address ≡ old.address) × RoomTakes moment message old new first kind × RoomsTake moment message olds news rest others
-RoomsTake moment message _ _ octets kinds = ⊥
+abbrev pub RoomsTake : ℤ → Message → List Room → List Room → List ℕ → List InRoom → Type 0
+RoomsTake moment message [] [] octets all = (octets ≡ []) × (all ≡ [])
+RoomsTake moment message (old ∷ olds) (new ∷ news) octets all =
+    (first : List ℕ) × (rest : List ℕ) × (one : InRoom) × (others : List InRoom) × (octets ≡ first ++ rest) × (all ≡ one ∷ others)
+    × (new.address ≡ old.address) × RoomTakes moment message old new first one × RoomsTake moment message olds news rest others
+RoomsTake moment message _ _ octets all = ⊥
+
+-- of each room it is told whether it was freed
+abbrev pub AllTell : List InRoom → List Hosted → List Hosted → Type 0
+AllTell [] [] [] = Unit {0}
+AllTell (one ∷ all) (before ∷ befores) (after ∷ afters) = TellsFreed one.kind one.frees before.book after.book × AllTell all befores afters
+AllTell all _ _ = ⊥
 
 -- what is sent of an object, if there is one
 abbrev pub sent_octets : Option (List ℕ) → List ℕ

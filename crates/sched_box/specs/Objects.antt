@@ -16,18 +16,21 @@ kept_of object = take 1_048_577 object
 
 -- ---- a piece of what a reader lends
 
+-- the input has ended, and nothing of it is left
+abbrev pub LendsNothing : List ℕ → Bool → Type 0
+LendsNothing lent has_ended = (lent ≡ []) × (has_ended ≡ true)
+
 -- the octets, none of which is past the object's end, lead from one cutter to the other
 pub record Cuts (old : Cutter) (octets : List ℕ) (new : Cutter) : Type 0 where
   pub rest : (more : List ℕ) → rest_after old (octets ++ more) ≡ rest_after new more
   pub begun : (more : List ℕ) → begun_after old (octets ++ more) ≡ begun_after new more
   pub none : octets ≡ [] → new ≡ old
 
--- what a piece did: the object ended before an octet that comes next; the input has ended; or it goes on
-abbrev pub IsPieceEnd : Option (List ℕ) → Option (List ℕ) → Cutter → List ℕ → Piece → Type 0
-IsPieceEnd old new cutter taken Ended =
-    (next : ℕ) × (ends_before cutter next ≡ true) × IfSome old (λ _. IfSome new (λ rest. (more : List ℕ) × (rest ≡ next ∷ more)))
-IsPieceEnd old new cutter taken End = OnSome old (IsAtEnd new)
-IsPieceEnd old new cutter taken Goes = 0 < length taken
+-- what a piece did: the object ended before an octet that the reader lends; the input has ended; or it goes on
+abbrev pub IsPieceEnd : List ℕ → Bool → Cutter → List ℕ → Piece → Type 0
+IsPieceEnd lent has_ended cutter taken Ended = (next : ℕ) × (more : List ℕ) × (lent ≡ next ∷ more) × (ends_before cutter next ≡ true)
+IsPieceEnd lent has_ended cutter taken End = LendsNothing lent has_ended
+IsPieceEnd lent has_ended cutter taken Goes = 0 < length taken
 
 abbrev pub piece_of : ℕ → Bool → Piece
 piece_of count ended = if ended then Ended else (if nat_lt 0 count then Goes else End)
@@ -45,21 +48,15 @@ LeavesMore Ended left = 0 < left
 LeavesMore End left = 0 < left
 LeavesMore Goes left = Unit {0}
 
--- what the reader lends then: where the object ended, the octet before which it did
-abbrev pub LendsAfter : ℕ → Piece → Type 0
-LendsAfter lent Ended = 0 < lent
-LendsAfter lent End = Unit {0}
-LendsAfter lent Goes = Unit {0}
-
 -- the octets were taken and, as far as they are kept, added
-pub record TakesPiece (old new : Option (List ℕ)) (before after : Objects) (from to : Cutter) (piece : Piece) : Type 0 where
+pub record TakesPiece (Takes : List ℕ → Type 0) (lent : List ℕ) (has_ended : Bool) (before after : Objects) (from to : Cutter) (piece : Piece) : Type 0 where
   pub taken : List ℕ
-  pub consumed : Consumes old new taken
+  pub takes : Takes taken
   pub kept : after.octets.items ≡ before.octets.items ++ take (1_048_577 - length before.octets.items) taken
   pub left : after.left + length taken ≡ before.left
   pub more : LeavesMore piece after.left
   pub cuts : Cuts from taken to
-  pub ends : IsPieceEnd old new to taken piece
+  pub ends : IsPieceEnd lent has_ended to taken piece
 
 -- ---- an object
 
@@ -78,8 +75,8 @@ ReadsObject old new before after found =
     (taken : List ℕ) × TakesNextObject old new after.octets.items found taken × (after.left + length taken ≡ before.left) × (0 < after.left)
 
 -- the octet after the object is lent, or the input has ended
-abbrev pub LendsNext : Option (List ℕ) → Option (List ℕ) → List ℕ → Type 0
-LendsNext old new lent = (0 < length lent) ⊎ OnSome old (IsAtEnd new)
+abbrev pub LendsNext : List ℕ → Bool → Type 0
+LendsNext lent has_ended = (0 < length lent) ⊎ LendsNothing lent has_ended
 
 -- the stream is too long exactly where nothing more may be read
 abbrev pub IsStop : ServeFault → ℕ → Type 0

@@ -2,6 +2,9 @@
 use Rattle.std.specs.Prelude.{◌≡◌, ◌⊎◌, ◌<◌, ◌≤◌, ◌+◌, ◌==◌, ℕ, ℤ, Bool, true, false, if◌then◌else◌, List, [], ◌∷◌, ◌++◌, length, Option, IfSome, OnSome}
 use Rattle.std.specs.Io.KnownBytes.{Consumes, IsAtEnd}
 use Rattle.profile.specs.streams.Streams.{Config, IsPreamble}
+use Rattle.sched_box.specs.Objects.{LendsNothing}
+use Rattle.sched_box.specs.declared.fault.StreamFault.{StreamFault}
+use Rattle.sched_box.specs.declared.fault.StreamFault.TheVariants.{Refused, Serve}
 use Rattle.sched_box.specs.declared.preamble.LineState.{LineState}
 use Rattle.sched_box.specs.declared.preamble.LineState.TheVariants.{Start, Return, Inside, Closed}
 
@@ -33,10 +36,9 @@ pub record Leads (old : LineState) (octets : List ℕ) (new : LineState) : Type 
   pub rest : (more : List ℕ) → rest_of old (octets ++ more) ≡ rest_of new more
 
 -- the octets that were taken lead on; where nothing goes on, the empty line or the end of the input was met
-pub record TakesPreamblePiece (old new : Option (List ℕ)) (from to : LineState) (octets : List ℕ) (goes : Bool) : Type 0 where
-  pub consumed : Consumes old new octets
+pub record TakesPreamblePiece (lent : List ℕ) (has_ended : Bool) (from to : LineState) (octets : List ℕ) (goes : Bool) : Type 0 where
   pub leads : Leads from octets to
-  pub stops : goes ≡ false → (to ≡ Closed) ⊎ OnSome old (IsAtEnd new)
+  pub stops : goes ≡ false → (to ≡ Closed) ⊎ LendsNothing lent has_ended
   pub some : goes ≡ true → (0 < length octets) × (is_closed to ≡ false)
 
 -- the octets up to the empty line were taken, or all
@@ -69,3 +71,8 @@ abbrev pub OpensNot : List ℕ → Type 0
 OpensNot octets =
     (preamble rest : List ℕ) (closed : Bool) (moment : ℤ) (hosts : Config)
     → octets ≡ preamble ++ rest → (closed ≡ false → rest ≡ []) → IsPreamble closed preamble moment hosts → ⊥
+
+-- what was read where no preamble was: none past an empty line; and where it is refused, the octets begin with none
+abbrev pub OpensNothing : StreamFault → Option (List ℕ) → Option (List ℕ) → Type 0
+OpensNothing (Refused refusal) input left = IfSome input OpensNot × StopsInPreamble input left
+OpensNothing (Serve fault) input left = StopsInPreamble input left

@@ -1,10 +1,11 @@
 -- What a reader gave and a writer took, once serving has ended.
-use Rattle.std.specs.Prelude.{◌≡◌, ◌⊎◌, ℕ, ℤ, ◌+◌, ◌≤◌, ◌<◌, List, [], ◌∷◌, ◌++◌, length, take, Contains, Option, Some, None, IfSome, OnSome, Result, Ok, Err}
+use Rattle.std.specs.Prelude.{◌≡◌, ◌⊎◌, ℕ, ℤ, ◌+◌, ◌≤◌, ◌<◌, List, [], ◌∷◌, ◌++◌, length, take, Contains, Option, Some, None, IfSome, OnSome, IfOk, IfErr, Result, Ok, Err}
 use Rattle.std.specs.Io.KnownBytes.{Appends, Keeps, IsAtEnd}
 use Rattle.profile.specs.text.Objects.{after_object}
 use Rattle.profile.specs.rooms.Kept.{IsKeptCalendar, IsKeptCertificate}
 use Rattle.profile.specs.streams.Reports.{AllAnswersAs, AllTold, Fate}
 use Rattle.profile.specs.streams.Streams.{BeginsWith, AreObjects, Answers, AllAnswers, AnswersStream, Box, Hosted, Config, new_box}
+use Rattle.sched_devices.specs.Input.{IsFilledWithin}
 use Rattle.sched_box.specs.declared.fault.ServeFault.{ServeFault}
 use Rattle.sched_box.specs.declared.fault.ServeFault.TheVariants.{Read, Write, TooLong, Memory}
 use Rattle.sched_box.specs.declared.serving.ServeReport.{ServeReport}
@@ -181,3 +182,14 @@ pub record TellsStream {Told : Type 0} (Tells : Told → ℕ → List ℕ → Fa
   pub after : Box
   pub opens : OpensStream ends.input rest moment hosts
   pub tells : TellsAll Tells old new moment (new_box hosts) after (record ends { input = rest }) report
+
+-- ---- of octets that came, and those that are left
+
+-- what comes of serving from these books on, of which this many octets may be read, and who is told of it; and how often the reader was filled
+pub record ServesBooks {Told : Type 0} (Tells : Told → ℕ → List ℕ → Fate → Told → Type 0) (told_old told_new : Told) (most : ℕ) (moment : ℤ) (olds news : Books) (fills_old fills_new : ℕ) (output written : Option (List ℕ))
+    (result : Result ServeReport ServeFault) (input left : Option (List ℕ)) : Type 0 where
+  pub serves : (before : Box) → AreBooksOf olds before → BooksServe most moment before news (record { input = input; left = left; output = output; written = written }) result
+  pub tells : (before : Box) → AreBooksOf olds before → IfOk result (λ report. (after : Box) × AreBooksOf news after
+      × TellsAll Tells told_old told_new moment before after (record { input = input; left = left; output = output; written = written }) report)
+  pub fills : IsFilledWithin 2 fills_old fills_new input left
+  pub bound : IfErr result (StopsWithin most input left)

@@ -108,7 +108,7 @@ impl Books {
         let message = read_kept(self.alloc, octets)?;
         if message.method().is_to_rooms() {
             let effects = self.rooms.take(self.alloc, &message, now, answers)?;
-            return Ok(effects.fate());
+            return Ok(effects.fate(message.method().is_cancel()));
         }
         let sent = self.organisers.take(self.alloc, &message, now)?;
         append_each(&sent, answers)?;

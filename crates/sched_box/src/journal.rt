@@ -1,10 +1,9 @@
 //! What became of each object of a stream, and who is told of it.
 
-ghost use Rattle.std.specs.Prelude.{◌≡◌, ◌≤◌, ◌∷◌, ◌++◌, ◌||◌, ℕ, Bool, List, []};
-ghost use Rattle.profile.specs.rooms.Rooms.{Kind as SaidKind};
-ghost use Rattle.profile.specs.streams.Reports.{Fate as SaidFate, fate_of, is_change, is_repeat, is_stale, refusals};
+ghost use Rattle.std.specs.Prelude.{◌≡◌, ◌≤◌, ◌||◌, ℕ, Bool, List, [], if◌then◌else◌};
+ghost use Rattle.profile.specs.streams.Reports.{Fate as SaidFate, CancelsNothing, Taken as SaidTaken, is_change, is_repeat, is_stale, refusals};
 ghost use Rattle.room_books.specs.Taking.{kind_view};
-ghost use Rattle.sched_box.specs.Journal.{AreEffects, fate_said};
+ghost use Rattle.sched_box.specs.Journal.{AddsEffect, AreEffects, InRoom, fate_in, fate_said, in_room_said};
 
 use ical_lines::Refusal;
 use room_books::Kind;
@@ -20,6 +19,8 @@ pub enum Fate {
     Stale,
     /// Nothing in it is new, and some of it is what a room knows already.
     Repeated,
+    /// It is a CANCEL that a room took, and in each room each instance is still confirmed that was.
+    CancelsNothing,
     /// A room decided or cancelled something, or an organiser took it.
     Taken,
 }
@@ -32,7 +33,11 @@ impl Fate {
     {
         match self {
             Fate::Refused(_) => 1,
-            Fate::Unreached | Fate::Stale | Fate::Repeated | Fate::Taken => 0,
+            Fate::Unreached
+            | Fate::Stale
+            | Fate::Repeated
+            | Fate::CancelsNothing
+            | Fate::Taken => 0,
         }
     }
 }
@@ -80,6 +85,14 @@ impl Journal for Nobody {
     fn tell(&mut self, _number: u64, _octets: &[u8], _fate: Fate) {}
 }
 
+/// What became of a message in one room.
+#[derive(Drop)]
+pub(crate) struct Became {
+    pub kind: Kind,
+    /// Whether nothing was decided, and an instance that was confirmed isn't any more.
+    pub frees: bool,
+}
+
 /// What became of a message in some rooms.
 #[derive(Clone, Copy)]
 pub(crate) struct Effects {
@@ -89,14 +102,13 @@ pub(crate) struct Effects {
     repeated: bool,
     /// To one all of it is older than what that knows.
     stale: bool,
+    /// One decided nothing, and an instance that it had confirmed isn't any more.
+    frees: bool,
 }
 
 impl Effects {
-    ghost use Rattle.std.specs.Prelude.{◌≡◌, ◌∷◌, ◌++◌, List, []};
-    ghost use Rattle.profile.specs.rooms.Rooms.{Kind as SaidKind};
-    ghost use Rattle.profile.specs.streams.Reports.{fate_of};
-    ghost use Rattle.room_books.specs.Taking.{kind_view};
-    ghost use Rattle.sched_box.specs.Journal.{AreEffects, fate_said};
+    ghost use Rattle.std.specs.Prelude.{◌≡◌, List, []};
+    ghost use Rattle.sched_box.specs.Journal.{AddsEffect, AreEffects, InRoom, fate_in, fate_said, in_room_said};
 
     /// Those in no room.
     pub(crate) fn none() -> Effects
@@ -106,29 +118,32 @@ impl Effects {
             changed: false,
             repeated: false,
             stale: false,
+            frees: false,
         }
     }
 
     /// Those in one room more, where this became of it.
-    pub(crate) fn with(self, kind: &Kind) -> Effects
-        ensures { (kinds : List SaidKind) → AreEffects kinds self → AreEffects (kinds ++ kind_view kind.now ∷ []) result }
+    pub(crate) fn with(self, became: &Became) -> Effects
+        ensures { AddsEffect self (in_room_said became.now) result }
     {
-        let changed = either(self.changed, is_change(kind));
-        let repeated = either(self.repeated, is_repeat(kind));
-        let stale = either(self.stale, is_stale(kind));
+        let changed = either(self.changed, is_change(&became.kind));
+        let repeated = either(self.repeated, is_repeat(&became.kind));
+        let stale = either(self.stale, is_stale(&became.kind));
+        let frees = either(self.frees, became.frees);
         Effects {
             changed,
             repeated,
             stale,
+            frees,
         }
     }
 
-    /// What became of the message.
-    pub(crate) fn fate(self) -> Fate
-        ensures { (kinds : List SaidKind) → AreEffects kinds self → fate_said result ≡ fate_of kinds }
+    /// What became of the message, which is a CANCEL or none.
+    pub(crate) fn fate(self, is_cancel: bool) -> Fate
+        ensures { (all : List InRoom) → AreEffects all self → fate_said result ≡ fate_in is_cancel all }
     {
         if self.changed {
-            return Fate::Taken;
+            return taken(is_cancel && !self.frees);
         }
         if self.repeated {
             return Fate::Repeated;
@@ -138,6 +153,16 @@ impl Effects {
         }
         Fate::Unreached
     }
+}
+
+/// What became of a message that a room took.
+fn taken(cancels_nothing: bool) -> Fate
+    ensures { fate_said result ≡ (if cancels_nothing then CancelsNothing else SaidTaken) }
+{
+    if cancels_nothing {
+        return Fate::CancelsNothing;
+    }
+    Fate::Taken
 }
 
 fn either(a: bool, b: bool) -> bool

@@ -25,7 +25,8 @@ pub use journal::{Fate, Journal, Nobody};
 pub use meetings::shown_meetings;
 pub use preamble::read_preamble;
 pub use sched_devices::{
-    DeviceReader, DeviceWriter, DiskFolder, Folder, FolderFault, Input, Output, WriteFault,
+    DeviceReader, DeviceWriter, DiskFolder, Folder, FolderFault, Input, Output, Recorder,
+    WriteFault,
 };
 pub use schedules::{Step, World, play};
 pub use serving::{ServeReport, keep, serve, serve_stream, serve_stream_telling};

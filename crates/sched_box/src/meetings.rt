@@ -1,6 +1,6 @@
 //! What an organiser has stored after a stream, with the states that were seen.
 
-ghost use Rattle.std.specs.Prelude.{◌≡◌, Contains, false, IfErr, IfOk, OnOk};
+ghost use Rattle.std.specs.Prelude.{◌≡◌, Contains, true, false, IfErr, IfOk, OnOk};
 ghost use Rattle.std.specs.Io.KnownBytes.{Keeps};
 ghost use Rattle.std.specs.Result.{IsErrAnd};
 ghost use Rattle.ical_values.specs.Octets.{address_octets};
@@ -8,7 +8,7 @@ ghost use Rattle.sched_box.specs.Config.{config_hosts, config_organisers};
 ghost use Rattle.sched_box.specs.Faults.{IfRefusedStream, IsRefusal, RefusesPreamble, StreamKeepsButRead, StreamStopsFor};
 ghost use Rattle.sched_box.specs.Meetings.{KeepsMeetings};
 ghost use Rattle.sched_box.specs.Serving.{StopsKeeping};
-ghost use Rattle.sched_devices.specs.Input.{IsFilledWithin};
+ghost use Rattle.sched_devices.specs.Input.{ForTaken, IsFilledWithin};
 
 use crate::books::Books;
 use crate::config::Config;
@@ -39,6 +39,8 @@ pub fn shown_meetings<R: Input>(
     ensures fills { IsFilledWithin 2 (R.fills reader.old) (R.fills reader.new) (R.remaining reader.old) (R.remaining reader.new) }
     ensures unhosted { (Contains (config_organisers config.now) (address_octets organiser.now) → ⊥)
         → IsErrAnd result IsRefusal × Keeps (R.remaining reader.old) (R.remaining reader.new) }
+    ensures ended { OnOk result (R.has_ended reader.new ≡ true) }
+    ensures taken { IfOk result (λ octets. ForTaken R.takes R.lent R.has_ended reader.old reader.new (λ input left. KeepsMeetings now (config_hosts config.now) input left (address_octets organiser.now) octets.items)) }
 {
     if !config.has_organiser(organiser) {
         return Err(not_hosted());

@@ -1,10 +1,10 @@
 //! The objects of a stream, one after another: never more than one of them is in memory.
 
 ghost use Rattle.std.specs.Prelude.{◌≡◌, ◌≤◌, ◌<◌, ◌+◌, ◌-◌, ◌++◌, [], true, false, length, take, slice_index, IfOk, IfErr, OnOk, OnErr};
-ghost use Rattle.std.specs.Io.KnownBytes.{Keeps};
 ghost use Rattle.ical_lines.specs.Cut.{ends_before};
 ghost use Rattle.sched_box.specs.Faults.{KeepsButRead, StopsFor};
-ghost use Rattle.sched_box.specs.Objects.{Cuts, IsPieceFault, LendsAfter, LendsNext, ReadsObject, StopsReading, TakesPiece, piece_of};
+ghost use Rattle.sched_box.specs.Objects.{Cuts, IsPieceFault, LendsNext, LendsNothing, ReadsObject, StopsReading, TakesPiece, piece_of};
+ghost use Rattle.sched_devices.specs.Input.{ForTaken};
 ghost use Rattle.sched_box.specs.declared.fault.ServeFault.TheVariants.{Read};
 
 use crate::fault::ServeFault;
@@ -60,9 +60,10 @@ impl Objects {
     /// Reads the next object; false where only empty lines are left.
     /// A reader that fails gives `Read`, and the last octet that may be read `TooLong`.
     pub fn next_object<R: Input>(&mut self, reader: &mut R) -> Result<bool, ServeFault>
-        ensures reads { IfOk result (ReadsObject (R.remaining reader.old) (R.remaining reader.new) self.old self.new) }
-        ensures stops { IfErr result (StopsReading (R.remaining reader.old) (R.remaining reader.new) self.old self.new) }
-        ensures after { IfOk result (λ found. found ≡ true → LendsNext (R.remaining reader.old) (R.remaining reader.new) (R.lent reader.new)) }
+        ensures reads { IfOk result (λ found. ForTaken R.takes R.lent R.has_ended reader.old reader.new (λ input left. ReadsObject input left self.old self.new found)) }
+        ensures stops { IfErr result (λ fault. ForTaken R.takes R.lent R.has_ended reader.old reader.new (λ input left. StopsReading input left self.old self.new fault)) }
+        ensures after { IfOk result (λ found. found ≡ true → LendsNext (R.lent reader.new) (R.has_ended reader.new)) }
+        ensures end { IfOk result (λ found. found ≡ false → LendsNothing (R.lent reader.new) (R.has_ended reader.new)) }
         ensures first { IfErr result (λ fault. fault ≡ Read → 0 < length (R.lent reader.old) → self.new.left < self.old.left) }
         ensures fills { R.fills reader.new + self.new.left ≤ R.fills reader.old + self.old.left + (1 - length (R.lent reader.old)) }
         ensures cause { IfErr result (StopsFor (R.has_failed reader.new) false) }
@@ -88,11 +89,10 @@ impl Objects {
         cutter: &mut Cutter,
     ) -> Result<Piece, ServeFault>
         requires { 0 < self.old.left }
-        ensures takes { IfOk result (TakesPiece (R.remaining reader.old) (R.remaining reader.new) self.old self.new cutter.old cutter.new) }
+        ensures takes { IfOk result (TakesPiece (λ taken. R.takes reader.old taken reader.new) (R.lent reader.new) (R.has_ended reader.new) self.old self.new cutter.old cutter.new) }
         ensures left { OnErr result (self.new.left ≡ self.old.left) }
-        ensures keeps { OnErr result (Keeps (R.remaining reader.old) (R.remaining reader.new)) }
+        ensures keeps { OnErr result (R.takes reader.old [] reader.new) }
         ensures faults { IfErr result IsPieceFault }
-        ensures lends { IfOk result (LendsAfter (length (R.lent reader.new))) }
         ensures first { IfErr result (λ fault. fault ≡ Read → length (R.lent reader.old) ≡ 0) }
         ensures fills { R.fills reader.new ≤ R.fills reader.old + (1 - length (R.lent reader.old)) }
         ensures cause { IfErr result (StopsFor (R.has_failed reader.new) false) }

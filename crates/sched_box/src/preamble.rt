@@ -1,12 +1,12 @@
 //! The preamble of a stream: its lines are taken from the reader up to the empty one, and nothing after it.
 
-ghost use Rattle.std.specs.Prelude.{◌≡◌, ◌≤◌, ◌<◌, ◌+◌, ◌-◌, ◌++◌, ℕ, List, length, nat_lt, ◌&&◌, not, take, true, false, IfOk, IfErr, IfSome, OnOk, OnErr};
-ghost use Rattle.std.specs.Io.KnownBytes.{Keeps};
+ghost use Rattle.std.specs.Prelude.{◌≡◌, ◌≤◌, ◌<◌, ◌+◌, ◌-◌, ◌++◌, ℕ, List, [], length, Option, nat_lt, ◌&&◌, not, take, true, false, IfOk, IfErr, IfSome, OnOk, OnErr};
+ghost use Rattle.std.specs.Io.KnownBytes.{prepend_known};
 ghost use Rattle.sched_box.specs.Config.{config_hosts};
 ghost use Rattle.sched_box.specs.Faults.{IfRefusedStream, IsReadFault, KeepsButRead, RefusesPreamble, StopsFor, StreamKeepsButRead, StreamStopsFor};
-ghost use Rattle.sched_devices.specs.Input.{IsFilledWithin};
+ghost use Rattle.sched_devices.specs.Input.{ForTaken, IsFilledWithin, MayFollow};
 ghost use Rattle.sched_box.specs.Objects.{IsPieceFault};
-ghost use Rattle.sched_box.specs.Preamble.{IsLong, Leads, OpensStream, OpensNot, StopsInPreamble, TakesPreamblePiece, TakesPreamble, is_closed, next_place};
+ghost use Rattle.sched_box.specs.Preamble.{Leads, OpensNothing, OpensStream, OpensNot, StopsInPreamble, TakesPreamblePiece, TakesPreamble, is_closed, next_place};
 ghost use Rattle.sched_box.specs.declared.preamble.LineState.TheVariants.{Inside};
 
 use crate::config::{Config, LONGEST};
@@ -32,6 +32,8 @@ pub fn read_preamble<R: Input>(
     ensures none { IfErr result (IfRefusedStream (IfSome (R.remaining reader.old) OpensNot)) }
     ensures fills { IsFilledWithin 1 (R.fills reader.old) (R.fills reader.new) (R.remaining reader.old) (R.remaining reader.new) }
     ensures stops { OnErr result (StopsInPreamble (R.remaining reader.old) (R.remaining reader.new)) }
+    ensures taken { IfOk result (λ read. ForTaken R.takes R.lent R.has_ended reader.old reader.new (λ input left. OpensStream input left read.1 (config_hosts read.0))) }
+    ensures taken_not { IfErr result (λ fault. ForTaken R.takes R.lent R.has_ended reader.old reader.new (OpensNothing fault)) }
 {
     let octets = take_preamble(alloc, reader)?;
     match Config::read_with_now(alloc, octets.as_slice()) {
@@ -44,7 +46,8 @@ pub fn read_preamble<R: Input>(
 /// The octets of a preamble, its empty line included.
 /// Refused: 90 where they are more than 65,536.
 fn take_preamble<R: Input>(alloc: Global, reader: &mut R) -> Result<Vec<u8>, StreamFault>
-    ensures takes { IfOk result (λ octets. TakesPreamble (R.remaining reader.old) (R.remaining reader.new) octets.items) }
+    ensures takes { IfOk result (λ octets. R.takes reader.old octets.items reader.new × ((left : Option (List ℕ)) → IfSome left (MayFollow (R.lent reader.new) (R.has_ended reader.new))
+        → TakesPreamble (prepend_known octets.items left) left octets.items)) }
     ensures few { IfOk result (λ octets. length octets.items ≤ 131_073) }
     ensures fills { IsFilledWithin 1 (R.fills reader.old) (R.fills reader.new) (R.remaining reader.old) (R.remaining reader.new) }
     ensures refuses { IfErr result RefusesPreamble }
@@ -52,8 +55,7 @@ fn take_preamble<R: Input>(alloc: Global, reader: &mut R) -> Result<Vec<u8>, Str
     ensures cause { IfErr result (StreamStopsFor (R.has_failed reader.new) false) }
     ensures mark { OnOk result (R.has_failed reader.new ≡ R.has_failed reader.old) }
     ensures told { IfErr result (StreamKeepsButRead (R.has_failed reader.old) (R.has_failed reader.new)) }
-    ensures none { IfErr result (IfRefusedStream (IfSome (R.remaining reader.old) IsLong)) }
-    ensures stops { OnErr result (StopsInPreamble (R.remaining reader.old) (R.remaining reader.new)) }
+    ensures stops { IfErr result (λ fault. ForTaken R.takes R.lent R.has_ended reader.old reader.new (OpensNothing fault)) }
 {
     let mut octets = Vec::new(alloc);
     let mut place = LineState::Start;
@@ -72,15 +74,15 @@ fn take_piece<R: Input>(
     place: &mut LineState,
     octets: &mut Vec<u8>,
 ) -> Result<bool, ServeFault>
-    ensures takes { IfOk result (λ goes. (taken : List ℕ) × (octets.new.items ≡ octets.old.items ++ taken)
-        × TakesPreamblePiece (R.remaining reader.old) (R.remaining reader.new) place.old place.new taken goes) }
+    ensures takes { IfOk result (λ goes. (taken : List ℕ) × (octets.new.items ≡ octets.old.items ++ taken) × R.takes reader.old taken reader.new
+        × TakesPreamblePiece (R.lent reader.new) (R.has_ended reader.new) place.old place.new taken goes) }
     ensures few { length octets.new.items ≤ length octets.old.items + 65_537 }
     ensures fills { R.fills reader.new ≤ R.fills reader.old + (1 - length (R.lent reader.old)) }
     ensures faults { IfErr result IsPieceFault }
     ensures cause { IfErr result (StopsFor (R.has_failed reader.new) false) }
     ensures mark { OnOk result (R.has_failed reader.new ≡ R.has_failed reader.old) }
     ensures told { IfErr result (KeepsButRead (R.has_failed reader.old) (R.has_failed reader.new)) }
-    ensures keeps { OnErr result (Keeps (R.remaining reader.old) (R.remaining reader.new)) }
+    ensures keeps { OnErr result (R.takes reader.old [] reader.new) }
 {
     let Ok(()) = lend(reader) else {
         return Err(ServeFault::Read);

@@ -7,21 +7,20 @@ ghost use Rattle.std.specs.Str.{bytes_eq};
 ghost use Rattle.ical_values.specs.Octets.{address_octets};
 ghost use Rattle.cal_events.specs.Component.{method_said};
 ghost use Rattle.profile.specs.events.Messages.{is_to_rooms};
-ghost use Rattle.profile.specs.rooms.Rooms.{Kind as SaidKind};
 ghost use Rattle.profile.specs.streams.Streams.{ZonedRoom as SaidRoom, new_room};
 ghost use Rattle.profile.specs.streams.Worlds.{rooms_once};
-ghost use Rattle.room_books.specs.Taking.{kind_view, octets_in};
+ghost use Rattle.room_books.specs.Taking.{octets_in};
 ghost use Rattle.sched_box.specs.Answering.{AreHosted, IsHosted, IsMade, RoomTakes, RoomsSend, RoomsTake, octets_each, room_addresses, sent_by, sent_octets};
 ghost use Rattle.sched_box.specs.Asked.{LeavesOut, asks, directory_addresses};
-ghost use Rattle.sched_box.specs.Journal.{AddsEffect, AreEffects};
+ghost use Rattle.sched_box.specs.Journal.{AddsEffect, AreEffects, InRoom, in_room_said};
 ghost use Rattle.sched_box.specs.Settings.{zoned_room};
 
 use crate::directory::Directory;
-use crate::journal::Effects;
+use crate::journal::{Became, Effects};
 use crate::settings::ZonedRoom;
 use ical_values::{Address, Stamp};
 use itip_messages::Message;
-use room_books::{Answer, Kind, Room};
+use room_books::{Answer, Room};
 use std::alloc::{AllocError, Global};
 
 /// The rooms that a box hosts, each with all that it took.
@@ -63,8 +62,8 @@ impl Rooms {
         now: Stamp,
         answers: &mut Vec<u8>,
     ) -> Result<Effects, AllocError>
-        ensures takes { IfOk result (λ effects. (more : List ℕ) × (kinds : List SaidKind) × (answers.new.items ≡ answers.old.items ++ more)
-            × RoomsTake now message.now self.old.rooms.items self.new.rooms.items more kinds × AreEffects kinds effects) }
+        ensures takes { IfOk result (λ effects. (more : List ℕ) × (all : List InRoom) × (answers.new.items ≡ answers.old.items ++ more)
+            × RoomsTake now message.now self.old.rooms.items self.new.rooms.items more all × AreEffects all effects) }
         ensures addresses { room_addresses self.new.rooms.items ≡ room_addresses self.old.rooms.items }
     {
         let asked = self.directory.asked_by(alloc, message)?;
@@ -129,8 +128,8 @@ fn take_all(
     requires long { length asked.now ≡ length rooms.old.items }
     requires out { LeavesOut (asks message.now) (room_addresses rooms.old.items) asked.now }
     ensures addresses { room_addresses rooms.new.items ≡ room_addresses rooms.old.items }
-    ensures takes { IfOk result (λ effects. (more : List ℕ) × (kinds : List SaidKind) × (answers.new.items ≡ answers.old.items ++ more)
-        × RoomsTake now message.now rooms.old.items rooms.new.items more kinds × AreEffects kinds effects) }
+    ensures takes { IfOk result (λ effects. (more : List ℕ) × (all : List InRoom) × (answers.new.items ≡ answers.old.items ++ more)
+        × RoomsTake now message.now rooms.old.items rooms.new.items more all × AreEffects all effects) }
 {
     let mut effects = Effects::none();
     for (place, room) in rooms.iter_mut().enumerate() {
@@ -151,11 +150,11 @@ fn take_next(
     effects: Effects,
 ) -> Result<Effects, AllocError>
     ensures address { room.new.address ≡ room.old.address }
-    ensures takes { IfOk result (λ next. (more : List ℕ) × (kind : SaidKind) × (answers.new.items ≡ answers.old.items ++ more)
-        × RoomTakes now message.now room.old room.new more kind × AddsEffect effects kind next) }
+    ensures takes { IfOk result (λ next. (more : List ℕ) × (one : InRoom) × (answers.new.items ≡ answers.old.items ++ more)
+        × RoomTakes now message.now room.old room.new more one × AddsEffect effects one next) }
 {
-    let kind = take_one(room, message, now, answers)?;
-    Ok(effects.with(&kind))
+    let became = take_one(room, message, now, answers)?;
+    Ok(effects.with(&became))
 }
 
 /// Hands a message to a room, and appends its reply and then its refresh. Gives what became of it.
@@ -164,20 +163,21 @@ fn take_one(
     message: &Message,
     now: Stamp,
     answers: &mut Vec<u8>,
-) -> Result<Kind, AllocError>
+) -> Result<Became, AllocError>
     ensures address { room.new.address ≡ room.old.address }
     ensures zone { room.new.zone ≡ room.old.zone }
-    ensures takes { IfOk result (λ kind. (more : List ℕ) × (answers.new.items ≡ answers.old.items ++ more)
-        × RoomTakes now message.now room.old room.new more (kind_view kind)) }
+    ensures takes { IfOk result (λ became. (more : List ℕ) × (answers.new.items ≡ answers.old.items ++ more)
+        × RoomTakes now message.now room.old room.new more (in_room_said became)) }
 {
     let Answer {
         kind,
         reply,
         refresh,
+        frees,
     } = room.take(message, now)?;
     append(&reply, answers)?;
     append(&refresh, answers)?;
-    Ok(kind)
+    Ok(Became { kind, frees })
 }
 
 /// Appends an object, if there is one.
@@ -214,6 +214,7 @@ fn push_answer(sent: &mut Vec<Vec<u8>>, answer: Answer) -> Result<(), AllocError
         kind: _,
         reply,
         refresh,
+        frees: _,
     } = answer;
     push(sent, reply)?;
     push(sent, refresh)

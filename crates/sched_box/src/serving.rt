@@ -1,6 +1,6 @@
 //! Serving: each object goes to the rooms that it is addressed to, or to the organiser that it names, and what is answered is written.
 
-ghost use Rattle.std.specs.Prelude.{◌≡◌, ◌<◌, ◌≤◌, ℕ, List, Option, Bool, Contains, false, IfErr, IfOk, OnOk};
+ghost use Rattle.std.specs.Prelude.{◌≡◌, ◌<◌, ◌≤◌, ℕ, List, Option, Bool, Contains, true, false, IfErr, IfOk, OnOk};
 ghost use Rattle.std.specs.Io.KnownBytes.{Appends, Keeps};
 ghost use Rattle.std.specs.Result.{IsErrAnd};
 ghost use Rattle.ical_values.specs.Octets.{address_octets};
@@ -9,9 +9,9 @@ ghost use Rattle.profile.specs.streams.Streams.{Box, new_box};
 ghost use Rattle.sched_box.specs.Books.{AreBooksOf, hosted_rooms};
 ghost use Rattle.sched_box.specs.Config.{config_hosts, config_rooms};
 ghost use Rattle.sched_box.specs.Faults.{IfRefusedStream, IsRefusal, KeepsButRead, KeepsButWrite, RefusesPreamble, StopsFor, StreamKeepsButRead, StreamKeepsButWrite, StreamStopsFor};
-ghost use Rattle.sched_devices.specs.Input.{IsFilledWithin};
+ghost use Rattle.sched_devices.specs.Input.{ForTaken, IsFilledWithin};
 ghost use Rattle.sched_box.specs.Sending.{StopsSending};
-ghost use Rattle.sched_box.specs.Serving.{AnswersWhole, BooksServe, KeepsTexts, Serves, ServesStream, StopsKeeping, StopsWithin, TellsAll, TellsStream};
+ghost use Rattle.sched_box.specs.Serving.{AnswersWhole, BooksServe, KeepsTexts, Serves, ServesBooks, ServesStream, StopsKeeping, StopsWithin, TellsAll, TellsStream};
 
 use crate::books::Books;
 use crate::config::Config;
@@ -48,6 +48,9 @@ pub fn serve_stream<R: Input, W: Output>(
     ensures serves { ServesStream (record { input = R.remaining reader.old; left = R.remaining reader.new; output = W.contents writer.old; written = W.contents writer.new }) result }
     ensures fills { IsFilledWithin 3 (R.fills reader.old) (R.fills reader.new) (R.remaining reader.old) (R.remaining reader.new) }
     ensures whole { OnOk result (AnswersWhole (record { input = R.remaining reader.old; left = R.remaining reader.new; output = W.contents writer.old; written = W.contents writer.new })) }
+    ensures ended { OnOk result (R.has_ended reader.new ≡ true) }
+    ensures taken { ForTaken R.takes R.lent R.has_ended reader.old reader.new (λ input left. ServesStream (record { input = input; left = left; output = W.contents writer.old; written = W.contents writer.new }) result) }
+    ensures answers { OnOk result (ForTaken R.takes R.lent R.has_ended reader.old reader.new (λ input left. AnswersWhole (record { input = input; left = left; output = W.contents writer.old; written = W.contents writer.new }))) }
 {
     serve_stream_telling(alloc, reader, writer, &mut Nobody)
 }
@@ -69,7 +72,11 @@ pub fn serve_stream_telling<R: Input, W: Output, J: Journal>(
     ensures serves { ServesStream (record { input = R.remaining reader.old; left = R.remaining reader.new; output = W.contents writer.old; written = W.contents writer.new }) result }
     ensures fills { IsFilledWithin 3 (R.fills reader.old) (R.fills reader.new) (R.remaining reader.old) (R.remaining reader.new) }
     ensures whole { OnOk result (AnswersWhole (record { input = R.remaining reader.old; left = R.remaining reader.new; output = W.contents writer.old; written = W.contents writer.new })) }
+    ensures ended { OnOk result (R.has_ended reader.new ≡ true) }
+    ensures taken { ForTaken R.takes R.lent R.has_ended reader.old reader.new (λ input left. ServesStream (record { input = input; left = left; output = W.contents writer.old; written = W.contents writer.new }) result) }
+    ensures answers { OnOk result (ForTaken R.takes R.lent R.has_ended reader.old reader.new (λ input left. AnswersWhole (record { input = input; left = left; output = W.contents writer.old; written = W.contents writer.new }))) }
     ensures tells { IfOk result (TellsStream J.tells journal.old journal.new (record { input = R.remaining reader.old; left = R.remaining reader.new; output = W.contents writer.old; written = W.contents writer.new })) }
+    ensures taken_told { IfOk result (λ report. ForTaken R.takes R.lent R.has_ended reader.old reader.new (λ input left. TellsStream J.tells journal.old journal.new (record { input = input; left = left; output = W.contents writer.old; written = W.contents writer.new }) report)) }
 {
     let (config, now) = read_preamble(alloc, reader)?;
     let report = serve_telling(alloc, &config, reader, writer, now, journal)?;
@@ -97,6 +104,9 @@ pub fn serve<R: Input, W: Output>(
     ensures fills { IsFilledWithin 2 (R.fills reader.old) (R.fills reader.new) (R.remaining reader.old) (R.remaining reader.new) }
     ensures serves { Serves now (new_box (config_hosts config.now))
         (record { input = R.remaining reader.old; left = R.remaining reader.new; output = W.contents writer.old; written = W.contents writer.new }) result }
+    ensures ended { OnOk result (R.has_ended reader.new ≡ true) }
+    ensures taken { ForTaken R.takes R.lent R.has_ended reader.old reader.new (λ input left. Serves now (new_box (config_hosts config.now))
+        (record { input = input; left = left; output = W.contents writer.old; written = W.contents writer.new }) result) }
 {
     serve_telling(alloc, config, reader, writer, now, &mut Nobody)
 }
@@ -121,6 +131,11 @@ fn serve_telling<R: Input, W: Output, J: Journal>(
         (record { input = R.remaining reader.old; left = R.remaining reader.new; output = W.contents writer.old; written = W.contents writer.new }) result }
     ensures tells { IfOk result (λ report. (after : Box) × TellsAll J.tells journal.old journal.new now (new_box (config_hosts config.now)) after
         (record { input = R.remaining reader.old; left = R.remaining reader.new; output = W.contents writer.old; written = W.contents writer.new }) report) }
+    ensures ended { OnOk result (R.has_ended reader.new ≡ true) }
+    ensures taken { ForTaken R.takes R.lent R.has_ended reader.old reader.new (λ input left. Serves now (new_box (config_hosts config.now))
+        (record { input = input; left = left; output = W.contents writer.old; written = W.contents writer.new }) result) }
+    ensures taken_told { ForTaken R.takes R.lent R.has_ended reader.old reader.new (λ input left. IfOk result (λ report. (after : Box) × TellsAll J.tells journal.old journal.new now (new_box (config_hosts config.now)) after
+        (record { input = input; left = left; output = W.contents writer.old; written = W.contents writer.new }) report)) }
 {
     let mut books = Books::new(alloc, config)?;
     serve_objects(alloc, &mut books, reader, writer, now, MOST_OCTETS, journal)
@@ -146,6 +161,8 @@ pub fn keep<R: Input>(
     ensures fills { IsFilledWithin 2 (R.fills reader.old) (R.fills reader.new) (R.remaining reader.old) (R.remaining reader.new) }
     ensures unhosted { (Contains (config_rooms config.now) (address_octets room.now) → ⊥)
         → IsErrAnd result IsRefusal × Keeps (R.remaining reader.old) (R.remaining reader.new) }
+    ensures ended { OnOk result (R.has_ended reader.new ≡ true) }
+    ensures taken { IfOk result (λ kept. ForTaken R.takes R.lent R.has_ended reader.old reader.new (λ input left. KeepsTexts now (config_hosts config.now) input left (address_octets room.now) kept.0.items kept.1.items)) }
 {
     if !config.has_room(room) {
         return Err(not_hosted());
@@ -198,6 +215,9 @@ pub(crate) fn serve_objects<R: Input, W: Output, J: Journal>(
     ensures told { IfErr result (KeepsButRead (R.has_failed reader.old) (R.has_failed reader.new)) }
     ensures sent { OnOk result (W.has_failed writer.new ≡ W.has_failed writer.old) }
     ensures unsent { IfErr result (KeepsButWrite (W.has_failed writer.old) (W.has_failed writer.new)) }
+    ensures ended { OnOk result (R.has_ended reader.new ≡ true) }
+    ensures taken { ForTaken R.takes R.lent R.has_ended reader.old reader.new (ServesBooks J.tells journal.old journal.new most now books.old books.new
+        (R.fills reader.old) (R.fills reader.new) (W.contents writer.old) (W.contents writer.new) result) }
     ensures fills { IsFilledWithin 2 (R.fills reader.old) (R.fills reader.new) (R.remaining reader.old) (R.remaining reader.new) }
     ensures bound { IfErr result (StopsWithin most (R.remaining reader.old) (R.remaining reader.new)) }
     ensures serves { (before : Box) → AreBooksOf books.old before → BooksServe most now before books.new
@@ -206,11 +226,36 @@ pub(crate) fn serve_objects<R: Input, W: Output, J: Journal>(
         × TellsAll J.tells journal.old journal.new now before after
         (record { input = R.remaining reader.old; left = R.remaining reader.new; output = W.contents writer.old; written = W.contents writer.new }) report) }
 {
+    let mut objects = Objects::new(alloc, most);
+    answer_each(alloc, &mut objects, books, reader, writer, now, journal)
+}
+
+/// Answers each object of a stream of which some octets may be read, in turn.
+fn answer_each<R: Input, W: Output, J: Journal>(
+    alloc: Global,
+    objects: &mut Objects,
+    books: &mut Books,
+    reader: &mut R,
+    writer: &mut W,
+    now: Stamp,
+    journal: &mut J,
+) -> Result<ServeReport, ServeFault>
+    requires { 0 < objects.old.left }
+    ensures counts { IfOk result (λ report. report.refused ≤ report.objects) }
+    ensures addresses { OnOk result (hosted_rooms books.new ≡ hosted_rooms books.old) }
+    ensures cause { IfErr result (StopsFor (R.has_failed reader.new) (W.has_failed writer.new)) }
+    ensures mark { OnOk result (R.has_failed reader.new ≡ R.has_failed reader.old) }
+    ensures told { IfErr result (KeepsButRead (R.has_failed reader.old) (R.has_failed reader.new)) }
+    ensures sent { OnOk result (W.has_failed writer.new ≡ W.has_failed writer.old) }
+    ensures unsent { IfErr result (KeepsButWrite (W.has_failed writer.old) (W.has_failed writer.new)) }
+    ensures ended { OnOk result (R.has_ended reader.new ≡ true) }
+    ensures taken { ForTaken R.takes R.lent R.has_ended reader.old reader.new (ServesBooks J.tells journal.old journal.new objects.old.left now books.old books.new
+        (R.fills reader.old) (R.fills reader.new) (W.contents writer.old) (W.contents writer.new) result) }
+{
     let mut report = ServeReport {
         objects: 0,
         refused: 0,
     };
-    let mut objects = Objects::new(alloc, most);
     let mut answers = Vec::new(alloc);
     while objects.next_object(reader)? {
         let number = report.objects + 1;

@@ -1,5 +1,6 @@
 pub mod Adapted
 pub mod AgendaSaid
+pub mod CheckSaid
 pub mod DiagnosisLemmas
 pub mod HandedBack
 pub mod Keeping

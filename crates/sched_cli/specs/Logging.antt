@@ -3,7 +3,7 @@ use Rattle.std.specs.Prelude.{◌≡◌, ◌⊎◌, ℕ, ◌==◌, Bool, true, f
 use Rattle.std.specs.List.{flat_map}
 use Rattle.std.specs.Io.KnownBytes.{Appends}
 use Rattle.percent_encoding.specs.Percent.{percent_encode_byte}
-use Rattle.profile.specs.streams.Reports.{Fate, Refused, Unreached, Stale, Repeated, Taken}
+use Rattle.profile.specs.streams.Reports.{Fate, Refused, Unreached, Stale, Repeated, CancelsNothing, Taken}
 use Rattle.sched_devices.specs.declared.output.WriteFault.{WriteFault}
 use Rattle.sched_devices.specs.declared.output.WriteFault.TheVariants.{Failed, Memory}
 
@@ -33,6 +33,7 @@ is_taken (Refused n) = false
 is_taken Unreached = false
 is_taken Stale = false
 is_taken Repeated = false
+is_taken CancelsNothing = false
 is_taken Taken = true
 
 -- what became of an object, in words
@@ -41,6 +42,7 @@ fate_words (Refused n) = codes "refused " ++ decimal n
 fate_words Unreached = codes "reached no room"
 fate_words Stale = codes "stale"
 fate_words Repeated = codes "changed nothing"
+fate_words CancelsNothing = codes "cancels nothing"
 fate_words Taken = codes "taken"
 
 -- a value behind what names it, where there is one

@@ -1,13 +1,16 @@
 //! What each command does, and the status that it ends with.
 
-ghost use Rattle.std.specs.Prelude.{◌≡◌, ◌≤◌, ◌++◌, ◌⊎◌, ℕ, take, false, IfOk, IfErr, OnOk};
+ghost use Rattle.std.specs.Prelude.{◌≡◌, ◌≤◌, ◌++◌, ◌⊎◌, ℕ, take, true, false, IfOk, IfErr, OnOk};
 ghost use Rattle.std.specs.Io.KnownBytes.{Appends, Keeps};
 ghost use Rattle.profile.specs.checker.Calendars.{CertificateHolds};
 ghost use Rattle.ical_values.specs.Octets.{address_octets};
 ghost use Rattle.sched_box.specs.Faults.{StreamKeepsButRead, StreamStopsFor};
+ghost use Rattle.sched_devices.specs.Input.{ForTaken};
 ghost use Rattle.sched_devices.specs.Output.{KeepsButFailed, StopsWriting};
+ghost use Rattle.sched_cli.specs.Blaming.{IsCheckSaid, SaysBlamed};
 ghost use Rattle.sched_cli.specs.Commands.{BlamesDevice, CutsKept, CutsVerdict, IsStatusSaid, ServesWith, WritesKept, KeepsBoth, KeepsNone, RefusesToKeep, TellsDevice, WritesVerdict, verdict_line, verdict_status, no_line};
 
+use crate::blamed::say_blamed;
 use crate::status::{DONE, NO, report_memory, report_stream, report_write};
 use clash_check::{Checked, Verdict, Why, check};
 use ical_values::Address;
@@ -33,6 +36,9 @@ pub fn run_serve<R: Input, W: Output, E: Output>(
     ensures told { TellsDevice result (R.has_failed reader.old) (R.has_failed reader.new) (W.has_failed writer.old) (W.has_failed writer.new) }
     ensures serves { ServesWith result (record { input = R.remaining reader.old; left = R.remaining reader.new; output = W.contents writer.old; written = W.contents writer.new })
         (E.contents errors.old) (E.contents errors.new) (E.may_lose errors.new) }
+    ensures taken { ForTaken R.takes R.lent R.has_ended reader.old reader.new (λ input left. ServesWith result (record { input = input; left = left; output = W.contents writer.old; written = W.contents writer.new })
+        (E.contents errors.old) (E.contents errors.new) (E.may_lose errors.new)) }
+    ensures ended { result ≡ 0 → R.has_ended reader.new ≡ true }
 {
     match serve_stream(alloc, reader, writer) {
         Ok(_) => DONE,
@@ -59,6 +65,8 @@ pub fn run_keep<R: Input, W: Output, E: Output>(
         (record { input = R.remaining reader.old; left = R.remaining reader.new; output = W.contents writer.old; written = W.contents writer.new }) }
     ensures cut { result ≡ 4 → Keeps (W.contents writer.old) (W.contents writer.new) ⊎ CutsKept kept (address_octets room.now)
         (record { input = R.remaining reader.old; left = R.remaining reader.new; output = W.contents writer.old; written = W.contents writer.new }) }
+    ensures taken { result ≡ 0 → ForTaken R.takes R.lent R.has_ended reader.old reader.new (λ input left. WritesKept kept (address_octets room.now)
+        (record { input = input; left = left; output = W.contents writer.old; written = W.contents writer.new })) }
 {
     match keep_stream(alloc, room, reader) {
         Ok((calendar, certificate)) => {
@@ -83,6 +91,7 @@ fn keep_stream<R: Input>(
     ensures told { IfErr result (StreamKeepsButRead (R.has_failed reader.old) (R.has_failed reader.new)) }
     ensures none { IfErr result (KeepsNone (R.remaining reader.old) (R.remaining reader.new) (address_octets room.now)) }
     ensures keeps { IfOk result (λ kept. KeepsBoth (R.remaining reader.old) (R.remaining reader.new) (address_octets room.now) kept.0.items kept.1.items) }
+    ensures taken { IfOk result (λ kept. ForTaken R.takes R.lent R.has_ended reader.old reader.new (λ input left. KeepsBoth input left (address_octets room.now) kept.0.items kept.1.items)) }
 {
     let (config, now) = read_preamble(alloc, reader)?;
     keep(alloc, &config, reader, now, room)
@@ -105,7 +114,7 @@ pub(crate) fn write_out<W: Output, E: Output>(writer: &mut W, errors: &mut E, oc
 }
 
 /// `check`: does the certificate hold for the calendar of this room? Writes `yes`, or `no` with its number, and
-/// for 81 the line, for 83 the pair.
+/// for 81 the line, for 83 the pair. Of a calendar that is refused it says which UID that is for, if it is known.
 pub fn run_check<W: Output, E: Output>(
     alloc: Global,
     calendar: &[u8],
@@ -122,26 +131,47 @@ pub fn run_check<W: Output, E: Output>(
     ensures device { BlamesDevice false (W.has_failed writer.new) result }
     ensures told { TellsDevice result false false (W.has_failed writer.old) (W.has_failed writer.new) }
     ensures status { (result ≤ 1) ⊎ (result ≡ 4) ⊎ (result ≡ 5) }
-    ensures said { IsStatusSaid result (E.contents errors.old) (E.contents errors.new) (E.may_lose errors.new) }
+    ensures said { IsCheckSaid result calendar.now (E.contents errors.old) (E.contents errors.new) (E.may_lose errors.new) }
 {
     let Ok(checked) = check(alloc, calendar, certificate, room) else {
         return report_memory(errors);
     };
     match print_verdict(alloc, writer, checked) {
-        Ok(()) => status_of(checked),
+        Ok(()) => close_check(alloc, calendar, room, checked, errors),
         Err(fault) => report_write(errors, fault),
     }
 }
 
-fn status_of(checked: Checked) -> u8
+/// Says of a calendar that is refused which UID that is for, and gives the status for the checker's answer.
+fn close_check<E: Output>(
+    alloc: Global,
+    calendar: &[u8],
+    room: &Address,
+    checked: Checked,
+    errors: &mut E,
+) -> u8
     ensures yes { result ≡ 0 → checked.verdict ≡ Verdict.Yes }
     ensures no { result ≡ 1 → checked.verdict ≡ Verdict.Yes → ⊥ }
     ensures value { result ≡ verdict_status checked.verdict }
     ensures range { result ≤ 1 }
+    ensures quiet { result ≡ 0 → Keeps (E.contents errors.old) (E.contents errors.new) }
+    ensures said { result ≡ 1 → SaysBlamed calendar.now (E.contents errors.old) (E.contents errors.new) (E.may_lose errors.new) }
 {
     match checked.verdict {
         Verdict::Yes => DONE,
-        Verdict::No(_) => NO,
+        Verdict::No(why) => {
+            say_why(alloc, calendar, room, why, errors);
+            NO
+        }
+    }
+}
+
+/// Says what the checker's no leaves out: of a calendar that is refused which UID that is for.
+fn say_why<E: Output>(alloc: Global, calendar: &[u8], room: &Address, why: Why, errors: &mut E)
+    ensures { SaysBlamed calendar.now (E.contents errors.old) (E.contents errors.new) (E.may_lose errors.new) }
+{
+    if why.number == Why::CALENDAR {
+        say_blamed(alloc, calendar, room, errors);
     }
 }
 

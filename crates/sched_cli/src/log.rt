@@ -116,7 +116,11 @@ fn is_taken(fate: Fate) -> bool
 {
     match fate {
         Fate::Taken => true,
-        Fate::Refused(_) | Fate::Unreached | Fate::Stale | Fate::Repeated => false,
+        Fate::Refused(_)
+        | Fate::Unreached
+        | Fate::Stale
+        | Fate::Repeated
+        | Fate::CancelsNothing => false,
     }
 }
 
@@ -181,6 +185,7 @@ fn append_fate(line: &mut Vec<u8>, fate: Fate) -> Result<(), AllocError>
         Fate::Unreached => line.extend_from_slice(b"reached no room"),
         Fate::Stale => line.extend_from_slice(b"stale"),
         Fate::Repeated => line.extend_from_slice(b"changed nothing"),
+        Fate::CancelsNothing => line.extend_from_slice(b"cancels nothing"),
         Fate::Taken => line.extend_from_slice(b"taken"),
     }
 }

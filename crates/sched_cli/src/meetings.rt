@@ -4,6 +4,7 @@ ghost use Rattle.std.specs.Prelude.{◌≡◌, ◌⊎◌, false, IfOk, IfErr, On
 ghost use Rattle.std.specs.Io.KnownBytes.{Keeps};
 ghost use Rattle.ical_values.specs.Octets.{address_octets};
 ghost use Rattle.sched_box.specs.Faults.{StreamKeepsButRead, StreamStopsFor};
+ghost use Rattle.sched_devices.specs.Input.{ForTaken};
 ghost use Rattle.sched_cli.specs.Commands.{BlamesDevice, IsStatusSaid, TellsDevice};
 ghost use Rattle.sched_cli.specs.Meetings.{CutsMeetings, IsShownAfter, RefusesToShow, ShowsNone, WritesMeetings};
 
@@ -31,6 +32,8 @@ pub fn run_meetings<R: Input, W: Output, E: Output>(
         (record { input = R.remaining reader.old; left = R.remaining reader.new; output = W.contents writer.old; written = W.contents writer.new }) }
     ensures cut { result ≡ 4 → Keeps (W.contents writer.old) (W.contents writer.new) ⊎ CutsMeetings (address_octets organiser.now)
         (record { input = R.remaining reader.old; left = R.remaining reader.new; output = W.contents writer.old; written = W.contents writer.new }) }
+    ensures taken { result ≡ 0 → ForTaken R.takes R.lent R.has_ended reader.old reader.new (λ input left. WritesMeetings (address_octets organiser.now)
+        (record { input = input; left = left; output = W.contents writer.old; written = W.contents writer.new })) }
 {
     match meetings_of_stream(alloc, organiser, reader) {
         Ok(texts) => write_out(writer, errors, texts.as_slice()),
@@ -49,6 +52,7 @@ fn meetings_of_stream<R: Input>(
     ensures told { IfErr result (StreamKeepsButRead (R.has_failed reader.old) (R.has_failed reader.new)) }
     ensures none { IfErr result (ShowsNone (R.remaining reader.old) (R.remaining reader.new) (address_octets organiser.now)) }
     ensures shows { IfOk result (λ texts. IsShownAfter (R.remaining reader.old) (R.remaining reader.new) (address_octets organiser.now) texts.items) }
+    ensures taken { IfOk result (λ texts. ForTaken R.takes R.lent R.has_ended reader.old reader.new (λ input left. IsShownAfter input left (address_octets organiser.now) texts.items)) }
 {
     let (config, now) = read_preamble(alloc, reader)?;
     shown_meetings(alloc, &config, reader, now, organiser)

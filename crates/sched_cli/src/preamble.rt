@@ -75,7 +75,7 @@ pub fn preamble_fault(alloc: Global, octets: &[u8], front: Front) -> Result<Vec<
     };
     line.extend_from_slice(b"roombox: ")?;
     append_number(&mut line, found.line)?;
-    line.extend_from_slice(found.why.words().as_bytes())?;
+    found.why.append_words(&mut line)?;
     append_text(&mut line, octets, found.line)?;
     line.extend_from_slice(b"\n")?;
     Ok(line)
@@ -341,10 +341,23 @@ fn is_zone(alloc: Global, words: &str) -> Result<bool, AllocError> {
 }
 
 impl Why {
-    /// What it is, in words that follow the number of the line.
-    fn words(self) -> &'static str {
-        match self {
-            Why::TooLong => "no empty line is among the first 65536 octets",
+    /// Appends what it is, in words that follow the number of the line.
+    fn append_words(self, out: &mut Vec<u8>) -> Result<(), AllocError> {
+        let words = match self {
+            Why::TooLong => return append_limit(
+                out,
+                "no empty line is among the first ",
+                LONGEST,
+                " octets",
+            ),
+            Why::ManyRooms => return append_limit(out, "it is one room more than ", MOST_ROOMS, ""),
+            Why::ManyZones => return append_limit(out, "it is one zone more than ", MOST_ROOMS, ""),
+            Why::ManyOrganisers => return append_limit(
+                out,
+                "it is one organiser more than ",
+                MOST_ORGANISERS,
+                "",
+            ),
             Why::NotUtf8 => "the preamble isn't UTF-8",
             Why::Empty => "there is no preamble",
             Why::NoEmptyLine => "no empty line stands before the first object",
@@ -357,15 +370,26 @@ impl Why {
             Why::SecondRoom => "a line before it names this room",
             Why::SecondZone => "a line before it gives this room a zone",
             Why::SecondOrganiser => "a line before it names this organiser",
-            Why::ManyRooms => "it is one room more than 64",
-            Why::ManyZones => "it is one zone more than 64",
-            Why::ManyOrganisers => "it is one organiser more than 256",
             Why::ZoneOfNoRoom => "no line names this room",
             Why::MoreBehind => "it is empty, and more stands behind it",
             Why::NoNow => "no line is `now` and a time",
             Why::NoHost => "no line names a room or an organiser",
-        }
+        };
+        out.extend_from_slice(words.as_bytes())
     }
+}
+
+/// Appends words around a limit.
+fn append_limit(
+    out: &mut Vec<u8>,
+    before: &str,
+    limit: usize,
+    behind: &str,
+) -> Result<(), AllocError> {
+    let mut digits = Buffer::new();
+    out.extend_from_slice(before.as_bytes())?;
+    out.extend_from_slice(digits.format(limit as u64).as_bytes())?;
+    out.extend_from_slice(behind.as_bytes())
 }
 
 /// The preamble at the front of a stream: up to its empty line, if there is one.

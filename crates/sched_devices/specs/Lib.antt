@@ -5,3 +5,4 @@ pub mod Input
 pub mod Memory
 pub mod Noted
 pub mod Output
+pub mod Taking

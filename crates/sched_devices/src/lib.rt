@@ -15,6 +15,6 @@ pub use call_log::Call;
 pub use disk_folder::DiskFolder;
 pub use failure::{Explained, Failure};
 pub use folder::{Folder, FolderFault, MOST_OCTETS};
-pub use input::{DeviceReader, Input, lend};
+pub use input::{DeviceReader, Input, Recorder, lend};
 pub use memory_folder::MemoryFolder;
 pub use output::{DeviceWriter, Nowhere, Output, WriteFault};

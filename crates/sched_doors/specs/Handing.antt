@@ -1,10 +1,11 @@
 -- What a door makes of what it reads.
-use Rattle.std.specs.Prelude.{◌≡◌, ◌<◌, ℕ, Bool, true, false, List, [], ◌∷◌, ◌++◌, length, Option, Some, None, IfSome, OnSome}
+use Rattle.std.specs.Prelude.{◌≡◌, ◌<◌, ℕ, Bool, true, false, List, [], ◌∷◌, ◌++◌, drop, length, Option, Some, None, IfSome, OnSome}
 use Rattle.std.specs.Io.KnownBytes.{Consumes, IsAtEnd}
 use Rattle.profile.specs.text.Trees.{Tree}
 use Rattle.profile.specs.doors.Adapting.{IsAdapted}
 use Rattle.ical_lines.specs.Cut.{ends_before, fresh}
 use Rattle.ical_lines.specs.declared.object_end.Cutter.{Cutter}
+use Rattle.sched_devices.specs.Input.{Coming}
 use Rattle.sched_doors.specs.Pieces.{BeginsLast, EndsBeforeNext, HasEnded, IsEmpty, LeadsOn, Scans, may_begin_object}
 use Rattle.sched_doors.specs.declared.place.FrontCutter.{FrontCutter}
 use Rattle.sched_doors.specs.declared.place.Place.{Place}
@@ -105,3 +106,7 @@ pub record IsForgotten {X : Type 0} (place : Place) (octets : List ℕ) (consume
   pub all : consumed ≡ length octets
   pub plain : is_adapted ≡ false
   pub none : going_on ≡ []
+
+-- what it lends of the octets that it has; those that are to come aren't told in advance
+abbrev pub lending : ℕ → List ℕ → Bool → Coming
+lending consumed octets has_ended = record { known = None; lent = drop consumed octets; has_ended = has_ended }

@@ -4,7 +4,9 @@
 
 ghost use Rattle.std.specs.Prelude.{◌≡◌, ◌<◌, ◌≤◌, ◌++◌, ℕ, List, [], drop, length, map, take, is_some, string_bytes, true, false, IfErr, OnErr, OnOk};
 ghost use Rattle.cal_doors.specs.Adapted.{list_of};
-ghost use Rattle.sched_doors.specs.Handing.{HandsOn, IsForgotten, IsFrontPiece, IsPreamblePiece, LendsAsCame, Passes, after_preamble, begun_at};
+ghost use Rattle.sched_devices.specs.Input.{TakesOctets};
+ghost use Rattle.sched_devices.specs.Taking.{taken_more, taken_nothing};
+ghost use Rattle.sched_doors.specs.Handing.{HandsOn, IsForgotten, IsFrontPiece, IsPreamblePiece, LendsAsCame, Passes, after_preamble, begun_at, lending};
 ghost use Rattle.sched_doors.specs.Pieces.{IsCauseOf, IsEmpty, KeepsUnlessRead};
 ghost use Rattle.sched_doors.specs.declared.fault.DoorFault.TheVariants.{Memory};
 ghost use Rattle.sched_doors.specs.declared.place.Place.TheVariants.{Start, Between, Front, Long};
@@ -40,6 +42,8 @@ pub struct Door<'c, 'a, R: Input + Drop> {
     going_on: Vec<String>,
     /// Why it failed last as a reader.
     fault: Option<DoorFault>,
+    /// As a reader it had nothing to lend: its input has ended.
+    ended: bool,
 }
 
 impl<'c, 'a, R: Input + Drop> Door<'c, 'a, R> {
@@ -50,6 +54,7 @@ impl<'c, 'a, R: Input + Drop> Door<'c, 'a, R> {
         ensures reader { result.reader ≡ reader }
         ensures place { result.place ≡ Start }
         ensures fault { is_some result.fault ≡ false }
+        ensures goes_on { result.ended ≡ false }
         ensures lent { drop result.consumed result.octets.items ≡ [] }
     {
         Door {
@@ -63,6 +68,7 @@ impl<'c, 'a, R: Input + Drop> Door<'c, 'a, R> {
             is_adapted: false,
             going_on: Vec::new(alloc),
             fault: None,
+            ended: false,
         }
     }
 
@@ -335,12 +341,29 @@ impl<R: Input + Drop> Input for Door<'_, '_, R> {
 
     ghost has_failed = { λ door. is_some door.fault };
 
+    ghost has_ended = { λ door. door.ended };
+
+    ghost takes = { λ old taken new. TakesOctets (lending old.consumed old.octets.items old.ended) taken (lending new.consumed new.octets.items new.ended) };
+
+    ghost known_follows = { λ _. tt };
+
+    ghost takes_nothing = { λ _. taken_nothing _ };
+
+    ghost takes_more = { λ _ _ _ first second. taken_more _ _ _ first second };
+
+    ghost takes_known = { λ _ _ _ taken. taken.consumed };
+
+    ghost takes_follows = { λ _ _ _ octets taken. taken.follows octets };
+
     fn fill(&mut self) -> io::Result<()> {
-        if self.consumed < self.octets.len() {
+        if self.ended || self.consumed < self.octets.len() {
             return Ok(());
         }
         match self.pass() {
-            Ok(()) => Ok(()),
+            Ok(()) => {
+                self.ended = self.buffer().is_empty();
+                Ok(())
+            }
             Err(fault) => {
                 self.fault = Some(fault);
                 Err(io::Error::from(kind_of(fault)))

@@ -144,6 +144,7 @@ impl Hosts {
                     kind: _,
                     reply,
                     refresh,
+                    frees: _,
                 } = self.room.take(message, self.now)?;
                 taken.answer = reply;
                 taken.refresh = refresh;

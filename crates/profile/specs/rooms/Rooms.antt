@@ -88,6 +88,16 @@ confirmed_series book = series_confirmed book.taken book.answers
 abbrev pub Confirms : Book → Instance → Type 0
 Confirms book booked = Contains (confirmed_singles book) booked ⊎ IsShownInSeries book.taken (confirmed_series book) booked
 
+-- each instance that was confirmed still is
+abbrev pub KeepsConfirmed : Book → Book → Type 0
+KeepsConfirmed before after = (booked : Instance) → Confirms before booked → Confirms after booked
+
+-- one isn't any more
+pub record Frees (before after : Book) : Type 0 where
+  pub booked : Instance
+  pub was : Confirms before booked
+  pub gone : Confirms after booked → ⊥
+
 -- ---- how new a part is, by the views before its message and after it
 
 abbrev pub is_fresh : List Part → List Part → Part → Bool
@@ -199,6 +209,16 @@ kind_of_outcome Accept = Accepted
 kind_of_outcome (Busy a b t) = Declined a b t
 kind_of_outcome SeriesLimit = Limit Series
 kind_of_outcome SinglesLimit = Limit Singles
+
+-- a room decided something
+abbrev pub is_decision : Kind → Bool
+is_decision Accepted = true
+is_decision (Declined a b t) = true
+is_decision (Limit limit) = true
+is_decision Cancelled = false
+is_decision Repeated = false
+is_decision Stale = false
+is_decision NotAddressed = false
 
 -- decided where a part was asked; else cancelled where a part is fresh, repeated where one is the same, stale where none is
 abbrev pub kind_of : List Part → List Part → List Claim → Outcome → Kind

@@ -1,21 +1,23 @@
 -- What became of each object of a stream: for who reads the report of a run, beside what is answered.
 use Rattle.std.specs.Prelude.{◌≡◌, ◌⊎◌, ℕ, ◌+◌, ℤ, Bool, true, false, if◌then◌else◌, List, [], ◌∷◌, ◌++◌}
-use Rattle.std.specs.List.{list_any}
+use Rattle.std.specs.List.{AllZip, list_any}
 use Rattle.profile.specs.events.Messages.{Message, SpellsMessage, is_to_rooms}
-use Rattle.profile.specs.rooms.Messages.{Outcome}
+use Rattle.profile.specs.rooms.Messages.{Outcome, is_cancel}
 use Rattle.profile.specs.rooms.Rooms as rooms
-use Rattle.profile.specs.rooms.Rooms.{Claim, Kind, IsStep, kind_of}
+use Rattle.profile.specs.rooms.Rooms.{Claim, Kind, IsStep, KeepsConfirmed, kind_of}
 use Rattle.profile.specs.streams.Streams.{Answers, AreClaims, Box, Hosted, IsRefusedWith}
 
 -- ---- what became of an object
 
 -- Refused, by the number of its refusal; or it reached no room of the box; or it changed nothing, as all that it says is older than what the
--- rooms know (stale), or some of it is what a room knows already (repeated); or it was taken
+-- rooms know (stale), or some of it is what a room knows already (repeated); or it was taken, and is a CANCEL that frees no room of an instance; or it
+-- was taken
 pub data Fate : Type 0 where
   Refused : ℕ → Fate
   Unreached : Fate
   Stale : Fate
   Repeated : Fate
+  CancelsNothing : Fate
   Taken : Fate
 
 -- a room that was reached has decided something, or cancelled something
@@ -68,10 +70,21 @@ AllBecome moment message (before ∷ befores) (after ∷ afters) kinds =
     × AllBecome moment message befores afters others
 AllBecome moment message _ _ kinds = ⊥
 
+-- it is a CANCEL that a room has taken, and in each room each instance is still confirmed that was
+pub record FreesNothing (message : Message) (before after : List Hosted) (kinds : List Kind) : Type 0 where
+  pub cancel : is_cancel message.method ≡ true
+  pub taken : fate_of kinds ≡ Taken
+  pub keeps : AllZip (λ was is. KeepsConfirmed was.book is.book) before after
+
+-- what became of a message to rooms, by what became of it in each of them, and whether it frees one
+abbrev pub IsFate : Message → List Hosted → List Hosted → List Kind → Fate → Type 0
+IsFate message before after kinds fate =
+    (FreesNothing message before after kinds × (fate ≡ CancelsNothing)) ⊎ ((FreesNothing message before after kinds → ⊥) × (fate ≡ fate_of kinds))
+
 -- what became of a message that isn't refused. What comes to an organiser who is hosted, and isn't refused, is taken: a store, a REPLY however
 -- late, a REFRESH; this profile's choice
 abbrev pub Becomes : Bool → ℤ → Message → Box → Box → Fate → Type 0
-Becomes true moment message before after fate = (kinds : List Kind) × AllBecome moment message before.rooms after.rooms kinds × (fate ≡ fate_of kinds)
+Becomes true moment message before after fate = (kinds : List Kind) × AllBecome moment message before.rooms after.rooms kinds × IsFate message before.rooms after.rooms kinds fate
 Becomes false moment message before after fate = fate ≡ Taken
 
 -- ---- the objects of a stream
@@ -82,6 +95,7 @@ refusals (Refused n) = 1
 refusals Unreached = 0
 refusals Stale = 0
 refusals Repeated = 0
+refusals CancelsNothing = 0
 refusals Taken = 0
 
 -- this became of an object that is taken, or refused

@@ -1,9 +1,15 @@
 -- Worked examples of the definitions of a room: a request that is accepted, one that is declined, and a repeat.
-use Rattle.std.proofs.Common.{◌≡◌, ℕ, pos, [], ◌∷◌, None, refl}
+use Rattle.std.proofs.Common.{◌≡◌, ℕ, pos, true, List, [], ◌∷◌, None, inl, inr, refl, sym, subst, arith}
+use Rattle.std.specs.List.{Contains}
+use Rattle.itip_order.proofs.Lists.{none_in_nil}
 use Rattle.profile.specs.checker.Instances.{Key, Instance}
 use Rattle.profile.specs.rooms.Revisions.{Part, Whole, At, Body, Set, Absent, Cancelled}
-use Rattle.profile.specs.rooms.Messages.{no_content, Accept, Busy, SinglesLimit}
-use Rattle.profile.specs.rooms.Rooms.{Claim, Book, confirmed_singles, asked, kind_of, shown, answered, Accepted, Declined, Repeated, Stale, NotAddressed}
+use Rattle.profile.specs.events.Messages.{Message}
+use Rattle.profile.specs.rooms.Messages.{no_content, is_cancel, Accept, Busy, SinglesLimit}
+use Rattle.profile.specs.rooms.Rooms as rooms
+use Rattle.profile.specs.rooms.Rooms.{Claim, Book, Frees, KeepsConfirmed, confirmed_singles, asked, kind_of, shown, answered, Accepted, Declined, Repeated, Stale, NotAddressed}
+use Rattle.profile.specs.streams.Reports.{CancelsNothing, IsFate, Taken}
+use Rattle.profile.specs.streams.Streams.{Hosted}
 use Rattle.room_books.specs.Texts.{kept}
 
 -- a meeting of the organiser `a`, booked from nine to ten
@@ -123,3 +129,34 @@ noon = record { part = slot_part 49 32400 (Set (83 ∷ [])); content = no_conten
 
 the_moved_is_where_it_went : confirmed_singles (record { taken = first.part ∷ noon.part ∷ []; answers = answered (pos 28800) Accept (first ∷ noon ∷ []) }) ≡ noon.singles
 the_moved_is_where_it_went = refl
+
+-- ---- what a CANCEL frees
+
+-- one of the instance of nine o'clock frees the room of it
+a_cancel_frees : Frees one_accepted (with_part (slot_part 49 32400 Cancelled))
+a_cancel_frees = record {
+  booked = booked_at 49 32400 36000;
+  was = inl (0, omega arith, refl);
+  gone = λ c. elim c [ inl single ↦ none_in_nil _ single | inr recurs ↦ none_in_nil recurs.series recurs.among ];
+}
+
+-- where the one single is confirmed still, nothing is freed
+keeps_nine : (book : Book) → confirmed_singles book ≡ booked_at 49 32400 36000 ∷ [] → KeepsConfirmed one_accepted book
+keeps_nine book same b (inl single) = inl (subst (λ (l : List Instance). Contains l b) (sym same) single)
+keeps_nine book same b (inr recurs) = absurd (none_in_nil recurs.series recurs.among)
+
+-- one of ten o'clock, at which nothing starts, frees it of nothing
+a_cancel_of_no_start : KeepsConfirmed one_accepted (with_part (slot_part 49 36000 Cancelled))
+a_cancel_of_no_start = keeps_nine (with_part (slot_part 49 36000 Cancelled)) another_slot_hides_nothing
+
+module _ (message : Message) (cancel : is_cancel message.method ≡ true) (room : Hosted) where
+  hosted : Book → List Hosted
+  hosted book = record room { book = book } ∷ []
+
+  it_is_told : IsFate message (hosted one_accepted) (hosted (with_part (slot_part 49 36000 Cancelled))) (rooms.Cancelled ∷ []) CancelsNothing
+  unfolding hosted
+  it_is_told = inl (record { cancel = cancel; taken = refl; keeps = (a_cancel_of_no_start, tt) }, refl)
+
+  the_other_is_not : IsFate message (hosted one_accepted) (hosted (with_part (slot_part 49 32400 Cancelled))) (rooms.Cancelled ∷ []) Taken
+  unfolding hosted
+  the_other_is_not = inr ((λ f. a_cancel_frees.gone (f.keeps.0 a_cancel_frees.booked a_cancel_frees.was)), refl)

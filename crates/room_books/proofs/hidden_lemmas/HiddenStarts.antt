@@ -2,15 +2,16 @@
 -- Cited by hidden_starts, hides_start, series_left, without_hidden.
 use Rattle.std.proofs.Common.{◌≡◌, ◌∙◌, ℕ, ◌+◌, ◌<◌, ℤ, ◌⊎◌, Bool, true, false, ◌&&◌, ◌||◌, List, [], ◌∷◌, ◌++◌, length, map, take, get_or, inl, inr, Option, None, Some, refl, sym, ap, subst}
 use Rattle.std.specs.List.{Contains, list_any}
+use Rattle.std.specs.Option.{option_to_list}
 use Rattle.std.specs.Ordering.{is_eq}
 use Rattle.std.proofs.lemmas.Bool.{and_parts, and_from, both_ways, false_from_ne_true, true≢false}
-use Rattle.std.proofs.lemmas.List.{take_more}
+use Rattle.std.proofs.lemmas.List.{get_or_default, take_more}
 use Rattle.std.proofs.lemmas.List.Elements.{Contains-append_left, Contains-append_cases, Contains-push}
 use Rattle.std.proofs.lemmas.List.Folds.{list_any-append}
 use Rattle.itip_order.specs.declared.part.Slot.{Slot as OwnSlot}
 use Rattle.itip_order.specs.Parts.{slot_of}
 use Rattle.itip_order.specs.Registers.{RepresentsHistory}
-use Rattle.itip_order.proofs.Lists.{any_at, any_from, in_cons, none_in_nil}
+use Rattle.itip_order.proofs.Lists.{any_at, any_from, in_cons, in_head, none_in_nil}
 use Rattle.itip_order.proofs.Order.{is_eq_true, slot_same, then_equal}
 use Rattle.itip_order.proofs.Registers.{in_view_at}
 use Rattle.profile.specs.checker.Instances.{Instance}
@@ -19,7 +20,7 @@ use Rattle.profile.specs.rooms.Revisions.{Part, At, in_view, is_whole, meeting_c
 use Rattle.profile.specs.rooms.Rooms.{is_hidden}
 use Rattle.cal_events.specs.Series.{series_said, AreKnownByStart, IsSeriesWithout}
 use Rattle.cal_events.specs.declared.series.Series.{Series}
-use Rattle.room_books.specs.Taking.{is_hidden_by, AreHiddenStarts, IsHiddenStart, IsSeriesLeft}
+use Rattle.room_books.specs.Taking.{is_hidden_by, AreHiddenStarts, HidesOneOf, IsHiddenStart, IsSeriesLeft}
 use Rattle.room_books.specs.Slots.{is_touched}
 use Rattle.room_books.proofs.shared_lemmas.AcceptedSlots.{slot_from}
 use Rattle.room_books.proofs.shared_lemmas.Pairs.{map_at}
@@ -126,6 +127,16 @@ none_hidden slots i d w history part b before this =
       | inl old ↦ both_ways _ before (and_from _ _ old both.1)
       | inr new ↦ both_ways _ (this new) both.1
     ]))
+
+-- one slot hides one
+pub one_hidden : (slots : List OwnSlot) (i : ℕ) (d : OwnSlot) → i < length slots → (history : List Part) (part : Part) (series : Series) (b : Instance) → IsInstance (series_said series) b
+    → slot_of (get_or slots i d) ≡ At b.key.slot → is_hidden history part b ≡ true → (o : Option Series) → o ≡ Some series → HidesOneOf (is_hidden_by slots history part) (option_to_list o)
+one_hidden slots i d w history part series b inside at hidden o e =
+    let slot = get_or slots i d in
+    let touches : OwnSlot → Bool = λ own. is_eq (slot_cmp (slot_of own) (At b.key.slot)) in
+    let touched = any_from touches slots slot (i, w, get_or_default slots i slot d w) (slot_from (slot_of slot) (At b.key.slot) at) in
+    subst (λ (x : Option Series). HidesOneOf (is_hidden_by slots history part) (option_to_list x)) (sym e)
+    (record { series = series; among = in_head series []; booked = b; is = inside; hidden = and_from _ _ touched hidden })
 
 -- ---- all slots that are held
 

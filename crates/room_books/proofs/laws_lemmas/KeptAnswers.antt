@@ -1,14 +1,15 @@
 -- What a room keeps of a part reads back: as a confirmed event of the same instances, or as one that hides one.
 -- Behind answers_stay, kept_texts_pass, kept_texts_spell, served_texts_pass.
-use Rattle.std.proofs.Common.{◌≡◌, ◌∙◌, ℕ, ℤ, Bool, true, false, ◌&&◌, ◌||◌, List, [], ◌∷◌, ◌++◌, codes, decimal, Option, Some, None, refl, sym, ap, ap₂, subst, arith, append_assoc}
-use Rattle.std.proofs.lemmas.Bool.{true≢false}
+use Rattle.std.proofs.Common.{◌≡◌, ◌∙◌, ℕ, ℤ, Bool, true, false, not, ◌&&◌, ◌||◌, List, [], ◌∷◌, ◌++◌, codes, decimal, Option, Some, None, refl, sym, ap, ap₂, subst, arith, append_assoc}
+use Rattle.std.proofs.lemmas.Bool.{and_parts, true≢false}
 use Rattle.std.specs.Prelude.{filter, is_some, option_map, unwrap_or}
 use Rattle.std.specs.List.{list_all, Contains}
 use Rattle.profile.specs.text.Lines.{is_content}
 use Rattle.profile.specs.text.Trees.{Tree, vevents}
 use Rattle.profile.specs.text.Objects.{is_property}
 use Rattle.profile.specs.text.Values.{WritesStamp, escaped}
-use Rattle.profile.specs.events.EventComponents.{Method, EventComponent, SaysEventComponent, has_accepted, meeting_said, bars_recurrence}
+use Rattle.profile.specs.checker.Naming.{is_not_accepted, names}
+use Rattle.profile.specs.events.EventComponents.{Method, EventComponent, Participation, SaysEventComponent, answer_of, has_accepted, is_accepted, meeting_said, bars_recurrence}
 use Rattle.profile.specs.events.Confirmed.{AreApart, AreOfRule, is_kept}
 use Rattle.profile.specs.events.Occurrences.{Time}
 use Rattle.profile.specs.events.Placed.{IsAt, IsPlaced, SaysPlaced}
@@ -39,7 +40,7 @@ use Rattle.itip_messages.proofs.shared_lemmas.OwnLines.{own_front, when_lines}
 use Rattle.room_books.proofs.laws_lemmas.KeptOwn.{SpellPart, own_back, own_lines, zoned_event, zoned_own, zoned_says}
 use Rattle.itip_messages.proofs.shared_lemmas.OwnWhen.{duration_clean, duration_of, when_of, written_rule}
 use Rattle.itip_messages.proofs.shared_lemmas.ZonedStarts.{IsSaid, name_means_in, name_plain}
-use Rattle.room_books.proofs.laws_lemmas.KeptEvents.{hidden_own, hidden_event, hidden_says, kept_confirmed}
+use Rattle.room_books.proofs.laws_lemmas.KeptEvents.{hidden_own, hidden_event, hidden_named, hidden_says, kept_confirmed}
 use Rattle.room_books.proofs.laws_lemmas.KeptTimes.{IsAsWritten, back_same, taken_written}
 use Rattle.room_books.proofs.laws_lemmas.PlacedTwice.{SaysTwice, apart_alike, placed_again, placed_twice, rule_alike, slot_one}
 use Rattle.room_books.proofs.laws_lemmas.KeptLines.{hidden_content, hidden_properties}
@@ -51,6 +52,25 @@ pub record IsAskedFor (room : List ℕ) (zone : Option Zone) (claim : Claim) : T
   pub asked : IsAsked room claim.content claim.part
   pub in_zone : asked.zone ≡ zone
   pub books : AsksFor (is_set claim.part) zone asked.event claim
+
+-- the event names the room, and is accepted or cancelled
+pub record IsThere (room : List ℕ) (said : EventComponent) : Type 0 where
+  pub named : names room said ≡ true
+  pub counted : is_not_accepted room said ≡ false
+
+-- one that is kept does
+pub kept_there : (room : List ℕ) (said : EventComponent) → is_kept room said ≡ true → IsThere room said
+kept_there room said kept =
+    let accepted = (and_parts _ _ kept).0 in
+    record { named = answered (answer_of room said) accepted; counted = ap (λ b. (names room said && not b) && not said.cancelled) accepted ∙ none (names room said) }
+  where
+    answered : (o : Option Participation) → unwrap_or (option_map is_accepted o) false ≡ true → is_some o ≡ true
+    answered None e = absurd (true≢false (sym e))
+    answered (Some p) e = refl
+
+    none : (b : Bool) → ((b && false) && not said.cancelled) ≡ false
+    none true = refl
+    none false = refl
 
 -- the lines are a VEVENT that says such an event in that room, in an object with these lines of its own and these zones, of that meeting and slot
 pub record ReadsBack (zone : Option Zone) (opening : Lines) (zones : List (List ℕ)) (lines : Lines) (organiser uid : List ℕ) (slot : Slot) : Type 0 where
@@ -228,6 +248,7 @@ module _ (room words : List ℕ) (zone : Option Zone) (named_zone : IsRoomZone w
 pub record HidesBack (room : List ℕ) (zone : Option Zone) (opening : Lines) (zones : List (List ℕ)) (part : Part) (lines : Lines) : Type 0 where
   pub back : ReadsBack zone opening zones lines part.organiser part.uid part.slot
   pub kept : is_kept room back.said ≡ false
+  pub there : IsThere room back.said
 
 module _ (room words : List ℕ) (zone : Option Zone) (named_zone : IsRoomZone words zone) (opening : Lines) (zones : List (List ℕ)) where
   pub hides_back : (content : Content) (part : Part) (lines hiding : Lines) (a : IsAsked room content part) → a.zone ≡ zone → IsRoom room → HidesSlot part.slot hiding → IsEventOf room part hiding (codes "DECLINED") lines
@@ -262,6 +283,7 @@ module _ (room words : List ℕ) (zone : Option Zone) (named_zone : IsRoomZone w
           slot_is = sym h.at;
         };
         kept = not_kept (has_accepted room said);
+        there = record { named = hidden_named part.uid h.instant number part.organiser part.revision.stamp room; counted = not_kept (names room said && not (has_accepted room said)) };
       }
     where
       not_kept : (b : Bool) → (b && false) ≡ false

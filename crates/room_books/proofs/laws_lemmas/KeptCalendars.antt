@@ -1,6 +1,6 @@
 -- The kept calendar spells the confirmed instances, and the kept certificate holds for them.
 -- Cited by kept_texts_pass, kept_texts_spell, served_texts_pass.
-use Rattle.std.proofs.Common.{◌≡◌, ◌≢◌, ◌∙◌, ℤ, true, false, not, ◌&&◌, cond, List, [], ◌∷◌, ◌++◌, filter, length, map, codes, Option, Some, None, is_some, ℕ, inl, inr, refl, sym, ap, ap₂, subst, arith, Bool}
+use Rattle.std.proofs.Common.{◌≡◌, ◌≢◌, ◌∙◌, ℤ, true, false, not, ◌&&◌, ◌||◌, cond, List, [], ◌∷◌, ◌++◌, filter, length, map, codes, Option, Some, None, is_some, ℕ, inl, inr, refl, sym, ap, ap₂, subst, arith, Bool}
 use Rattle.std.specs.Prelude.{◌↔◌, if◌then◌else◌, option_map}
 use Rattle.std.specs.Option.{option_to_list}
 use Rattle.std.specs.Ordering.{is_eq}
@@ -12,6 +12,7 @@ use Rattle.std.proofs.lemmas.List.Folds.{list_all-append}
 use Rattle.std.proofs.lemmas.Slice.Eq.{bytes_eq-Decides}
 use Rattle.profile.specs.text.Lines.{is_content, logical_lines, reads_as_lines, written}
 use Rattle.profile.specs.text.Objects.{is_property, IsObject}
+use Rattle.profile.specs.text.Trees.{Tree}
 use Rattle.profile.specs.events.EventComponents.{EventComponent, meeting_said}
 use Rattle.profile.specs.events.Placed.{SaysPlaced}
 use Rattle.profile.specs.series.RoomZones.{IsRoomZone, NamesRoomZone}
@@ -19,7 +20,8 @@ use Rattle.profile.specs.series.Zones.{Zone}
 use Rattle.profile.specs.events.Events.{Event, is_master}
 use Rattle.profile.specs.events.Starts.{IsInstance}
 use Rattle.profile.specs.events.Confirmed.{Confirmed, AreApart, AreConfirmed, AreOfRule, AreSingles, IsOneOf, IsReplacedAmong, IsSeries, alone, by_its_rule, has_series, is_kept, is_series}
-use Rattle.profile.specs.checker.Calendars.{SpellsCalendar, CertificateHolds}
+use Rattle.profile.specs.checker.Calendars.{SayEvents, SpellsCalendar, CertificateHolds}
+use Rattle.profile.specs.checker.Naming.{IsOfOthers, IsOfRoom, are_of_room, is_not_accepted, names, not_accepted}
 use Rattle.profile.specs.checker.Instances.{Instance, IsClear, Key}
 use Rattle.profile.specs.rooms.Messages.{opening_lines, slot_of, slot_named}
 use Rattle.profile.specs.rooms.Revisions.{Part, Slot, Whole, At, in_view, is_whole, same_meeting, same_part, same_place, slot_cmp}
@@ -27,6 +29,8 @@ use Rattle.profile.specs.rooms.Rooms.{Claim, PartAnswer, Book, Confirms, Recurri
 use Rattle.profile.specs.rooms.Kept.{KeptComponent, Shown, Hidden, part_kept, IsKept, IsKeptComponent, AreKept, IsKeptEvent, IsKeptCalendar, IsKeptCertificate, room_zone_lines, zone_texts, zones_kept}
 use Rattle.profile.specs.streams.Streams.{IsReached}
 use Rattle.cal_zones.proofs.OneRoomZone.{one_room_zone}
+use Rattle.cal_events.proofs.reading_lemmas.OneCalendar.{OneEvent, same_events}
+use Rattle.cal_events.proofs.reading_lemmas.OneText.{OneTree}
 use Rattle.cal_events.proofs.shared_lemmas.OwnSingles.{master_alone}
 use Rattle.cal_events.proofs.with_zone_lemmas.Worded.{line_content, shown_words, zone_line}
 use Rattle.itip_order.proofs.Lasting.{view_taken}
@@ -38,7 +42,7 @@ use Rattle.room_books.specs.Slots.{Reordered}
 use Rattle.room_books.specs.Room.{Pairwise}
 use Rattle.room_books.specs.Texts.{SpellsConfirmed}
 use Rattle.room_books.proofs.shared_lemmas.AcceptedSlots.{slot_same}
-use Rattle.room_books.proofs.laws_lemmas.KeptAnswers.{IsAskedFor, instant_there, shows_back, hides_back, set_body, set_zone}
+use Rattle.room_books.proofs.laws_lemmas.KeptAnswers.{IsAskedFor, IsThere, instant_there, kept_there, shows_back, hides_back, set_body, set_zone}
 use Rattle.itip_messages.proofs.law_lemmas.PartTexts.{IsRoom, asked_room}
 use Rattle.room_books.proofs.laws_lemmas.KeptEntries.{SamePlace, EntriesDiffer, place_there, place_from, meeting_from, claims_confirmed, claims_kept, claims_same, entries_differ, entry_placed, of_claims}
 use Rattle.room_books.proofs.laws_lemmas.KeptInstances.{IsHiding, none_left, series_left, singles_left}
@@ -64,6 +68,7 @@ record SaysEntry (room : List ℕ) (said : EventComponent) (entry : KeptComponen
   meeting : meeting_said said ≡ ((part_kept entry).organiser, (part_kept entry).uid)
   slot : slot_of said ≡ (part_kept entry).slot
   state : IsState room said entry
+  there : IsThere room said
 
 -- all VEVENTs read back, in a room of this zone, in an object with these lines of its own
 record AllBack (room : List ℕ) (zone : Option Zone) (opening : Lines) (zones : List (List ℕ)) (entries : List KeptComponent) (each : List Lines) : Type 0 where
@@ -115,7 +120,7 @@ module _ (room : List ℕ) (zone : Option Zone) (book : Book) (k : KeepsAll room
           properties = b.back.properties;
           content = b.back.content;
           says = b.back.says;
-          entry_is = record { meeting = b.back.meeting; slot = b.back.slot_is; state = (b.kept, b.apart, b.rule) };
+          entry_is = record { meeting = b.back.meeting; slot = b.back.slot_is; state = (b.kept, b.apart, b.rule); there = kept_there room b.back.said b.kept };
         }
     one_back first (Hidden part) lines is (hiding, h, event) =
         let a = k.taken part (view_taken book.taken part is.viewed) in
@@ -127,7 +132,7 @@ module _ (room : List ℕ) (zone : Option Zone) (book : Book) (k : KeepsAll room
           properties = b.back.properties;
           content = b.back.content;
           says = b.back.says;
-          entry_is = record { meeting = b.back.meeting; slot = b.back.slot_is; state = b.kept };
+          entry_is = record { meeting = b.back.meeting; slot = b.back.slot_is; state = b.kept; there = b.there };
         }
 
     all_back : (entries : List KeptComponent) (each : List Lines) → ((e : KeptComponent) → Contains entries e → (first : Part) × IsKeptComponent book first e) → AllZip (IsKeptEvent room zones) entries each → AllBack room zone opening zones entries each
@@ -161,6 +166,15 @@ saids_differ room (s ∷ ss) (e ∷ es) z d = (
       d.0 other.0 other.1 (record { organiser = ap (λ (m : List ℕ × List ℕ). m.0) meeting; uid = ap (λ (m : List ℕ × List ℕ). m.1) meeting; slot = sym z.0.slot ∙ slots ∙ other.2.slot }),
   saids_differ room ss es z.1 d.1,
 )
+
+-- ---- each is one of the room
+
+are_there : (room : List ℕ) (saids : List EventComponent) (entries : List KeptComponent) → AllZip (SaysEntry room) saids entries → (are_of_room room saids ≡ true) × (0 ≡ not_accepted room saids)
+are_there room [] entries z = (refl, refl)
+are_there room (s ∷ ss) [] z = absurd z
+are_there room (s ∷ ss) (e ∷ es) z =
+    let there = z.0.there in
+    (ap (λ b. b || list_any (names room) ss) there.named, (are_there room ss es z.1).1 ∙ ap (λ b. length (cond b (s ∷ filter (is_not_accepted room) ss) (filter (is_not_accepted room) ss))) (sym there.counted))
 
 -- ---- what is confirmed
 
@@ -408,6 +422,7 @@ record SpellsEntries (room : List ℕ) (book : Book) (entries : List KeptCompone
   series : List Event
   each : AllZip (IsLeft book.taken) series (all_series entries)
   spells : SpellsCalendar room octets (record { series = series; singles = all_singles book entries })
+  there : (are_of_room room spells.says.events ≡ true) × (0 ≡ not_accepted room spells.says.events)
 
 module _ (back : LinesBack) (reads : ReadsLines) (zone_back : ZoneBack) where
   calendar_spelled : (room words : List ℕ) (zone : Option Zone) → IsRoomZone words zone → (book : Book) → KeepsAll room zone book → (octets : List ℕ) (c : IsKeptCalendar room words book octets) → SpellsEntries room book c.entries octets
@@ -443,6 +458,7 @@ module _ (back : LinesBack) (reads : ReadsLines) (zone_back : ZoneBack) where
             are = are;
           };
         };
+        there = are_there room b.saids c.entries b.entries_are;
       }
 
 -- ---- it is what the book has confirmed
@@ -497,6 +513,23 @@ keeps_same back reads zone_back room words zone named book keeps calendar c =
       series = zip_long (IsLeft book.taken) s.series (all_series c.entries) s.each ∙ re_length (all_series c.entries) (confirmed_series book) (series_are room zone book keeps c.entries c.kept);
       exact = λ b. (one_to room zone book keeps c.entries c.kept s.series s.each b, one_from room zone book keeps c.entries c.kept s.series s.each b);
     }
+
+-- it is one of the room
+pub kept_there_for : LinesBack → ReadsLines → ZoneBack → (room words : List ℕ) (zone : Option Zone) (book : Book) (calendar : List ℕ) → IsRoomZone words zone → IsReached room zone book → IsKeptCalendar room words book calendar
+    → IsOfRoom room calendar 0
+kept_there_for back reads zone_back room words zone book calendar named r c =
+    let s = calendar_spelled back reads zone_back room words zone named book (runs_keep room zone r.deliveries book r.delivered r.runs) calendar c in
+    record { confirmed = record { series = s.series; singles = all_singles book c.entries }; spelled = s.spells; of_room = s.there.0; counted = s.there.1 }
+
+-- and not one of others, as octets say one list of events
+pub never_others : OneTree → OneEvent → (room octets : List ℕ) (count : ℕ) → IsOfRoom room octets count → IsOfOthers room octets → ⊥
+never_others tree event room octets count is others =
+    let s = is.spelled in
+    let o = others.spelled in
+    let same : s.tree ≡ o.tree = tree 7 7 (logical_lines octets) s.tree o.tree s.object.spelled o.object.spelled in
+    let says : SayEvents o.tree s.says.events = subst (λ (t : Tree). SayEvents t s.says.events) same s.says.says in
+    let events : s.says.events ≡ o.says.events = same_events event one_room_zone o.tree s.says.events o.says.events says o.says.says in
+    true≢false (sym is.of_room ∙ (ap (are_of_room room) events ∙ others.of_others))
 
 -- octets spell one calendar for a room
 abbrev pub OneCalendar : Type 0

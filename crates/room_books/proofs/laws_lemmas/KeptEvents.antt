@@ -3,11 +3,12 @@
 -- Behind answers_stay, kept_texts_pass, kept_texts_spell, served_texts_pass.
 use Rattle.std.proofs.Common.{◌≡◌, ℕ, ℤ, true, false, cond, List, [], ◌∷◌, ◌++◌, codes, Option, Some, None, inl, refl, sym, ap, subst, arith, lit<}
 use Rattle.std.specs.Str.{bytes_eq}
-use Rattle.std.specs.Prelude.{unwrap_or, option_map}
+use Rattle.std.specs.Prelude.{is_some, unwrap_or, option_map}
 use Rattle.std.proofs.lemmas.Fmt.{decimal_digit}
 use Rattle.std.proofs.lemmas.Slice.Eq.{bytes_eq-Decides}
 use Rattle.profile.specs.text.Values.{SpellsStamp, SpellsDuration}
 use Rattle.std.proofs.lemmas.Bool.{false≢true}
+use Rattle.profile.specs.checker.Naming.{names}
 use Rattle.profile.specs.text.Trees.{Tree}
 use Rattle.profile.specs.series.Rules.{Rule}
 use Rattle.profile.specs.events.Occurrences.{Time}
@@ -84,3 +85,10 @@ kept_confirmed event slot number organiser stamped room rule additions exception
     let same : bytes_eq room room ≡ true = (bytes_eq-Decides room room).1 refl in
     let attendee : Attendee = record { address = room; participation = Accepted; scheduled = true } in
     ap (λ b. unwrap_or (option_map is_accepted (option_map (λ (a : Attendee). a.participation) (cond b (Some attendee) None))) false) same
+
+-- and what is hidden names the room
+pub hidden_named : (uid : List ℕ) (instant : ℤ) (number : ℕ) (organiser : List ℕ) (stamped : ℤ) (room : List ℕ) → names room (hidden_event uid instant number organiser stamped room) ≡ true
+hidden_named uid instant number organiser stamped room =
+    let same : bytes_eq room room ≡ true = (bytes_eq-Decides room room).1 refl in
+    let attendee : Attendee = record { address = room; participation = Declined; scheduled = true } in
+    ap (λ b. is_some (option_map (λ (a : Attendee). a.participation) (cond b (Some attendee) None))) same

@@ -1,6 +1,6 @@
 -- Meeting by meeting: what a room keeps is what it has confirmed, and no two kept answers are of one meeting.
 -- Behind kept_texts_pass, kept_texts_spell, served_texts_pass.
-use Rattle.std.proofs.Common.{◌≡◌, ◌≢◌, ◌∙◌, ℕ, Bool, true, false, not, List, [], ◌∷◌, length, refl, ap, subst, inl, inr}
+use Rattle.std.proofs.Common.{◌≡◌, ◌∙◌, ℕ, Bool, true, false, not, List, [], ◌∷◌, length, refl, ap, subst, inl, inr}
 use Rattle.std.specs.Ordering.{is_eq, ordering_then}
 use Rattle.std.specs.List.{filter, flat_map, Contains}
 use Rattle.std.proofs.lemmas.Bool.{not-true, both_ways, cases_Bool, false_from_ne_true, not_from_false}

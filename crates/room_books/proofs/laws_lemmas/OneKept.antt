@@ -1,9 +1,9 @@
 -- A book that messages lead to has one kept calendar.
 -- Behind one_kept_calendar of laws.
-use Rattle.std.proofs.Common.{◌≡◌, ◌≢◌, ◌∙◌, ℕ, ℤ, zero, suc, Bool, true, false, not, List, [], ◌∷◌, ◌++◌, get_or, length, map, codes, decimal, Option, Some, None, refl, sym, ap, subst}
+use Rattle.std.proofs.Common.{◌≡◌, ◌≢◌, ◌∙◌, ℕ, ℤ, zero, suc, true, not, List, [], ◌∷◌, ◌++◌, get_or, map, codes, decimal, Option, Some, None, refl, sym, ap, subst}
 use Rattle.std.specs.Prelude.{slice_get}
 use Rattle.std.specs.declared.cmp.Ordering.TheVariants.{Less, Equal}
-use Rattle.std.specs.List.{Contains, flat_map, filter, AllZip}
+use Rattle.std.specs.List.{Contains, flat_map, AllZip}
 use Rattle.std.specs.Str.{bytes_eq}
 use Rattle.std.proofs.lemmas.Bool.{true≢false}
 use Rattle.std.proofs.lemmas.Cmp.{tied_itself}
@@ -18,7 +18,7 @@ use Rattle.profile.specs.series.Zones.{Zone}
 use Rattle.profile.specs.rooms.Messages.{Content, IsContent, IsZoneRest, StartsIn, TellsSlot, opening_lines}
 use Rattle.profile.specs.rooms.Revisions.{Part, Slot, Whole, At, slot_cmp}
 use Rattle.profile.specs.rooms.Rooms.{Claim, Book, is_set}
-use Rattle.profile.specs.rooms.Kept.{KeptComponent, Shown, Hidden, part_kept, IsKept, IsKeptComponent, AreKept, AreKeptOf, HidesSlot, IsEventOf, IsKeptCalendar, IsKeptEvent, IsNamed, each_once, first_parts, kept_zone_name, renamed, room_zone_lines, zone_kept, zone_texts, zones_kept}
+use Rattle.profile.specs.rooms.Kept.{KeptComponent, Shown, Hidden, part_kept, IsKeptComponent, AreKept, AreKeptOf, HidesSlot, IsEventOf, IsKeptCalendar, IsKeptEvent, IsNamed, each_once, first_parts, kept_zone_name, renamed, room_zone_lines, zone_kept, zone_texts, zones_kept}
 use Rattle.profile.specs.streams.Streams.{IsReached}
 use Rattle.cal_events.proofs.shared_lemmas.InOneOrder.{one_order}
 use Rattle.itip_order.proofs.Lists.{in_head, in_tail, filter_at}

@@ -67,7 +67,7 @@ series_joined k es answers given same few =
 -- ---- all is clear
 
 -- an entry is that of the meeting, or another one
-entry_put : (k : MeetingKey) (m : Meeting) (es : List (MeetingKey × Meeting)) → IsDistinct same_key (keys_of es) → (x : MeetingKey × Meeting) → Contains (insert_entry same_key es k m) x
+pub entry_put : (k : MeetingKey) (m : Meeting) (es : List (MeetingKey × Meeting)) → IsDistinct same_key (keys_of es) → (x : MeetingKey × Meeting) → Contains (insert_entry same_key es k m) x
     → ((x.1 ≡ m) × (same_key k x.0 ≡ true)) ⊎ (Contains es x × (same_key k x.0 ≡ false))
 entry_put k m [] d x c = elim (in_cons (k, m) [] x c) [
   | inl here ↦ inl (sym (ap (λ (z : MeetingKey × Meeting). z.1) here), subst (λ (z : MeetingKey × Meeting). same_key k z.0 ≡ true) here (key_from k k refl refl))

@@ -1,6 +1,6 @@
 -- What is gone is found by binary search, and is no longer in the way: what the timeline has beside it stays confirmed.
 -- Cited by busy_beside of decide, busy_beside_series of decide, decide of decide, is_among of gone, sort of gone, Room::answers_after of room and 4 more.
-use Rattle.std.proofs.Common.{◌≡◌, ◌∙◌, ℕ, ◌+◌, ◌≤◌, ℤ, ◌≤ℤ◌, Bool, true, false, ◌&&◌, List, ◌++◌, length, get_or, inl, inr, Option, None, Some, Result, Ok, Err, refl, sym, ap, subst, arith, length-append}
+use Rattle.std.proofs.Common.{◌≡◌, ◌∙◌, ℕ, ◌+◌, ℤ, ◌≤ℤ◌, Bool, true, false, ◌&&◌, List, ◌++◌, length, get_or, inl, inr, Option, None, Some, Result, Ok, Err, refl, sym, ap, subst, arith, length-append}
 use Rattle.std.specs.Prelude.{slice_get, ◌==◌}
 use Rattle.std.specs.declared.cmp.Ordering.TheVariants.{Equal}
 use Rattle.std.specs.Cmp.{IsTotalOrder}

@@ -1,6 +1,6 @@
 -- Lists of which no two elements are related, filters of them, and their parts one after another.
 -- Cited by busy_beside_series of decide, Views::any_fresh of taking, Views::any_same of taking, Views::unheard of taking, Timeline::change of timeline.
-use Rattle.std.proofs.Common.{◌≡◌, ◌∙◌, zero, suc, ◌≤◌, Bool, true, false, ◌&&◌, cond, List, [], ◌∷◌, ◌++◌, get_or, map, refl, sym, ap, subst, arith, inl, inr}
+use Rattle.std.proofs.Common.{◌≡◌, ◌∙◌, zero, suc, Bool, true, false, ◌&&◌, cond, List, [], ◌∷◌, ◌++◌, get_or, map, refl, sym, ap, subst, arith, inl, inr}
 use Rattle.std.specs.List.{filter, flat_map, Contains, AllPairs}
 use Rattle.std.proofs.lemmas.Bool.{true≢false}
 use Rattle.std.proofs.lemmas.List.Elements.{Contains-get_or, Contains-append_left, Contains-append_right, Contains-append_cases}

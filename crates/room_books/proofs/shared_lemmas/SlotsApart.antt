@@ -164,7 +164,7 @@ module _ (k : MeetingKey) (t : List Part) where
           both_ways _ shown (hides b a y (h b b_in) (h a a_in) fits.whole (e ∙ ap At (sym at ∙ same)))
 
 -- and so do those of the instances that spell them
-unmapped : {X Y : Type 0} (R : Y → Y → Type 0) (f : X → Y) (xs : List X) → Pairwise R (map f xs) → Pairwise (λ a b. R (f a) (f b)) xs
+pub unmapped : {X Y : Type 0} (R : Y → Y → Type 0) (f : X → Y) (xs : List X) → Pairwise R (map f xs) → Pairwise (λ a b. R (f a) (f b)) xs
 unmapped R f [] p = tt
 unmapped R f (x ∷ xs) p = (λ y c. p.0 (f y) (map_from f xs y c), unmapped R f xs p.1)
 

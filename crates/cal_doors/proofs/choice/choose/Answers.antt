@@ -19,7 +19,7 @@ returns-then-ends_before-clause-same c =
 pub returns-in-Some-from_instant-clause-same : goal.returns-in-Some-from_instant-clause-same
 returns-in-Some-from_instant-clause-same c =
     let from : to_z w64 (of_z w64 c.in-Some.from) ≡ c.args.times.first -ℤ pos 86_399 = search rules in
-    always refl (c.ends_before.ensures c.if-ends_before.false) (subst (λ f. IsSameFrom (general_of c.args.general.now) (zone_of c.in-Some-from_instant.zone) f) from c.in-Some-from_instant.ensures.same)
+    always refl (c.ends_before.ensures.no c.if-ends_before.false) (subst (λ f. IsSameFrom (general_of c.args.general.now) (zone_of c.in-Some-from_instant.zone) f) from c.in-Some-from_instant.ensures.same)
 
 pub returns-in-Some-2-clause-same : goal.returns-in-Some-2-clause-same
 returns-in-Some-2-clause-same c =

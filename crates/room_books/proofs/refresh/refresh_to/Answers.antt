@@ -1,7 +1,5 @@
 -- A refresh comes exactly where the message adds instances, and one of its parts is the first that was taken of its meeting.
 use Rattle.ical_values.specs.Octets.{address_octets}
-use Rattle.room_books.specs.declared.kept.Meeting.{Meeting}
-use Rattle.room_books.specs.Taking.{HasHistory}
 use Rattle.room_books.proofs.room_lemmas.Refreshing.{not_adding, nothing_unheard, asks_for_it}
 use Rattle.room_books.proofs.refresh.refresh_to.Goals as goal
 

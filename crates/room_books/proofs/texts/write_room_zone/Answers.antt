@@ -1,8 +1,5 @@
-use Rattle.std.proofs.Common.{◌≡◌, ◌∙◌, ◌++◌, codes}
+use Rattle.std.proofs.Common.{◌∙◌}
 use Rattle.std.proofs.lemmas.Result.{on_ok_weaker}
-use Rattle.cal_zones.specs.RoomZones.{words_of}
-use Rattle.profile.specs.rooms.Kept.{room_zone_lines}
-use Rattle.profile.specs.text.Lines.{folded, written}
 use Rattle.room_books.proofs.texts_lemmas.RoomLines.{utc_unnamed, zone_named}
 use Rattle.room_books.proofs.texts.write_room_zone.Goals as goal
 

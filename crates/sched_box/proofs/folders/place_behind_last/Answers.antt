@@ -1,4 +1,4 @@
-use Rattle.std.proofs.Common.{◌∙◌, ◌-◌, inr, map, string_bytes, sym, arith, true≢false}
+use Rattle.std.proofs.Common.{◌∙◌, inr, map, string_bytes, sym, arith, true≢false}
 use Rattle.sched_box.proofs.FolderLemmas.{last_among, none_among}
 use Rattle.sched_box.proofs.folders.place_behind_last.Goals as goal
 

@@ -7,6 +7,7 @@ use Rattle.sched_box.specs.Config.{config_hosts}
 use Rattle.sched_box.specs.Faults.{IfRefusedStream}
 use Rattle.sched_box.specs.declared.fault.StreamFault.{StreamFault}
 use Rattle.sched_box.specs.declared.fault.StreamFault.TheVariants.{Refused, Serve}
+use Rattle.sched_devices.proofs.InputLemmas.{for_each}
 use Rattle.sched_box.proofs.MeetingLemmas.{hosted_still, keeps_meetings}
 use Rattle.sched_box.proofs.ServingLemmas.{keeping_stopped}
 use Rattle.sched_box.proofs.meetings.shown_meetings.Goals as goal
@@ -53,3 +54,10 @@ returns-in_default-clause-none g c =
     let serves = c.in_ok-serve_objects.ensures.serves (new_box hosts) c.in_ok-books.ensures.kept in
     refused_if _ c.not_hosted-in_default.result
     (λ among. c.in_default.ensures.none refl (hosted_still c.args.now hosts c.serve_objects.new.books _ c.in_ok-serve_objects.field-0 (address_octets c.args.organiser.now) serves among))
+
+pub returns-clause-taken : goal.returns-clause-taken
+returns-clause-taken g c =
+    let hosts = config_hosts c.args.config.now in
+    for_each _ _ _ _ _ _ _ c.in_ok-serve_objects.ensures.taken
+    (λ input left h. keeps_meetings c.args.now hosts c.serve_objects.new.books _ c.in_ok-serve_objects.field-0 c.in-Some.kept.now (address_octets c.args.organiser.now) _ (h.serves (new_box hosts) c.in_ok-books.ensures.kept) c.in-Some.ensures.found
+    c.in-Some.ensures.address c.in_ok-texts.ensures)

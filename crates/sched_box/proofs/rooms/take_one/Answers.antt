@@ -12,5 +12,5 @@ returns-clause-takes c =
     let refresh = sent_octets (refresh_octets answer) in (
       reply ++ refresh,
       c.in_ok-append-2.ensures ∙ ap (λ z. z ++ refresh) c.in_ok-append.ensures ∙ append_assoc c.args.answers.now.items reply refresh,
-      room_takes c.args.now c.args.message.now c.args.room.now c.take.new.self (kind_view answer.kind) (reply_octets answer) (refresh_octets answer) c.in_ok-kind.ensures.steps c.take.ensures.address c.take.ensures.zone,
+      room_takes c.args.now c.args.message.now c.args.room.now c.take.new.self (kind_view answer.kind) answer.frees (reply_octets answer) (refresh_octets answer) c.in_ok-kind.ensures.steps c.in_ok-kind.ensures.frees c.take.ensures.address c.take.ensures.zone,
     )

@@ -6,6 +6,7 @@ use Rattle.profile.specs.streams.Streams.{new_box}
 use Rattle.sched_box.specs.Config.{config_hosts}
 use Rattle.profile.specs.rooms.Kept.{IsKeptCalendar, IsKeptCertificate}
 use Rattle.std.proofs.lemmas.Result.{err_from_is_err_and}
+use Rattle.sched_devices.proofs.InputLemmas.{for_each}
 use Rattle.sched_box.proofs.ServingLemmas.{keeps_texts, keeping_stopped}
 use Rattle.sched_box.proofs.ZoneLemmas.{in_zones}
 use Rattle.sched_box.proofs.serving.keep.Goals as goal
@@ -51,3 +52,10 @@ returns-in_err-texts-clause-bound g c =
     let (after, kept, all) = c.in_ok-serve_objects.ensures.serves (new_box (config_hosts c.args.config.now)) c.in_ok-books.ensures.kept in
     let p = err_from_is_err_and c.from_residual-in_err-texts.result c.from_residual-in_err-texts.ensures.1 in
     rw (p.1, p.2) all.bound
+
+pub returns-clause-taken : goal.returns-clause-taken
+returns-clause-taken g c =
+    let hosts = config_hosts c.args.config.now in
+    for_each _ _ _ _ _ _ _ c.in_ok-serve_objects.ensures.taken
+    (λ input left h. keeps_texts c.args.now hosts c.serve_objects.new.books _ c.in_ok-serve_objects.field-0 c.in-Some.kept.now (address_octets c.args.room.now) _ _ (h.serves (new_box hosts) c.in_ok-books.ensures.kept) c.in-Some.ensures.found c.in-Some.ensures.address
+    c.in_ok-texts.ensures.calendar c.in_ok-texts.ensures.certificate)

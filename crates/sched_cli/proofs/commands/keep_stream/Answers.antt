@@ -1,7 +1,7 @@
 use Rattle.ical_values.specs.Octets.{address_octets}
 use Rattle.ical_values.proofs.Exits.{err_exit}
 use Rattle.sched_cli.specs.Commands.{KeepsNone}
-use Rattle.sched_cli.proofs.Keeping.{unopened, unkept, kept_both}
+use Rattle.sched_cli.proofs.Keeping.{unopened, unkept, kept_both, kept_taken}
 use Rattle.sched_cli.proofs.commands.keep_stream.Goals as goal
 
 pub returns-in_err-config-clause-none : goal.returns-in_err-config-clause-none
@@ -21,3 +21,8 @@ pub returns-clause-keeps : goal.returns-clause-keeps
 returns-clause-keeps g c =
     kept_both c.keep.result (λ k. k.0.items) (λ k. k.1.items) (g.R.Input.remaining c.args.reader.now) _ (g.R.Input.remaining c.keep.new.reader)
     (address_octets c.args.room.now) _ _ c.in_ok-config.ensures.opens c.keep.ensures.keeps c.keep.ensures.passes
+
+pub returns-clause-taken : goal.returns-clause-taken
+returns-clause-taken g c =
+    kept_taken g.R.Input.takes g.R.Input.lent g.R.Input.has_ended c.args.reader.now c.read_preamble.new.reader c.keep.new.reader c.keep.result (λ k. k.0.items) (λ k. k.1.items) (address_octets c.args.room.now) _ _
+    g.met.R.Input.takes_more g.met.R.Input.takes_follows c.in_ok-config.ensures.taken c.keep.ensures.taken c.keep.ensures.passes

@@ -1,7 +1,7 @@
 use Rattle.ical_values.specs.Octets.{address_octets}
 use Rattle.ical_values.proofs.Exits.{err_exit}
 use Rattle.sched_cli.specs.Meetings.{ShowsNone}
-use Rattle.sched_cli.proofs.Showing.{unopened, unshown, shown_after}
+use Rattle.sched_cli.proofs.Showing.{unopened, unshown, shown_after, shown_taken}
 use Rattle.sched_cli.proofs.meetings.meetings_of_stream.Goals as goal
 
 pub returns-in_err-config-clause-none : goal.returns-in_err-config-clause-none
@@ -21,3 +21,8 @@ pub returns-clause-shows : goal.returns-clause-shows
 returns-clause-shows g c =
     shown_after c.shown_meetings.result (λ k. k.items) (g.R.Input.remaining c.args.reader.now) _ (g.R.Input.remaining c.shown_meetings.new.reader)
     (address_octets c.args.organiser.now) _ _ c.in_ok-config.ensures.opens c.shown_meetings.ensures.keeps
+
+pub returns-clause-taken : goal.returns-clause-taken
+returns-clause-taken g c =
+    shown_taken g.R.Input.takes g.R.Input.lent g.R.Input.has_ended c.args.reader.now c.read_preamble.new.reader c.shown_meetings.new.reader c.shown_meetings.result (λ k. k.items) (address_octets c.args.organiser.now) _ _
+    g.met.R.Input.takes_more g.met.R.Input.takes_follows c.in_ok-config.ensures.taken c.shown_meetings.ensures.taken

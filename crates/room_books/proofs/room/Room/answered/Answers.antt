@@ -1,12 +1,12 @@
 -- What is held of the meeting is what it held, and the parts of the message.
-use Rattle.std.proofs.Common.{◌++◌, ◌<◌, ◌∙◌, Option, List, arith, length, sym, ap, subst}
+use Rattle.std.proofs.Common.{◌++◌, ◌<◌, Bool, ◌∙◌, Option, List, arith, length, sym, ap, subst}
 use Rattle.std.specs.Map.{lookup}
 use Rattle.itip_order.specs.Registers.{RepresentsHistory}
 use Rattle.profile.specs.rooms.Revisions.{Part}
 use Rattle.room_books.specs.declared.claim.Claim.{Claim}
 use Rattle.room_books.specs.declared.kept.Meeting.{Meeting}
-use Rattle.room_books.specs.Taking.{answers_by, answers_then, claim_said, held_after, parts_said, HasHistory, IsMadeOf}
-use Rattle.room_books.specs.Meeting.{same_key}
+use Rattle.room_books.specs.Taking.{answers_by, answers_then, claim_said, held_after, parts_said, HasHistory, IsMadeOf, SaysFreed}
+use Rattle.room_books.specs.Meeting.{all_series, all_singles, same_key, series_by, singles_by}
 use Rattle.room_books.proofs.room_lemmas.Afters.{has_history_after}
 use Rattle.room_books.proofs.shared_lemmas.Claiming.{first_in, none_first}
 use Rattle.room_books.proofs.shared_lemmas.Pairs.{map_from}
@@ -32,7 +32,7 @@ returns-clause-after c = λ fit book st meeting is.
     let of_it = fit.of_it (claim_said first) (map_from claim_said claims first (first_in claims first c.in-Some.ensures.value)) in
     c.in_ok-decided.ensures.after of_it fit book st meeting
     (subst (λ (l : List Part). IsMadeOf l (answers_then (answers_by (lookup (same_key c.args.key.now) c.args.self.now.meetings.entries)) c.in_ok-decided.decided.changes) meeting) (sym held) is)
-    c.in_ok-kind.kind c.in_ok-kind.ensures
+    c.in_ok-kind.kind c.in_ok-kind.ensures.kind
 
 pub returns-clause-replies : goal.returns-clause-replies
 returns-clause-replies c = λ own meeting fit is_own is meets.
@@ -45,3 +45,13 @@ pub returns-clause-refreshes : goal.returns-clause-refreshes
 returns-clause-refreshes c = λ before after b a.
     let held = c.held_with-held.ensures ∙ ap (λ (o : Option Meeting). held_after o c.args.parts.now) c.get-before.ensures.value in
     c.in_ok-refresh.ensures before after (subst (λ (o : Option Meeting). HasHistory o before) (sym c.get-before.ensures.value) b) (subst (λ (l : List Part). RepresentsHistory l after) (sym held) a)
+
+pub returns-clause-frees : goal.returns-clause-frees
+returns-clause-frees c = λ history h.
+    let found = lookup (same_key c.args.key.now) c.args.self.now.meetings.entries in
+    let parts = parts_said c.args.claims.now in
+    let held = c.held_with-held.ensures ∙ ap (λ (o : Option Meeting). held_after o c.args.parts.now) c.get-before.ensures.value in
+    let represents = subst (λ (l : List Part). RepresentsHistory l (history ++ parts)) (sym held) (has_history_after found c.args.parts.now history parts h c.requires.parts) in
+    let answers = answers_then (answers_by found) c.in_ok-decided.decided.changes in
+    subst (λ (b : Bool). SaysFreed b c.in_ok-decided.decided.frees (singles_by found) (all_singles answers) (series_by found) (all_series answers)) (sym c.in_ok-kind.ensures.decision)
+    (c.in_ok-decided.ensures.frees (history ++ parts) represents)

@@ -1,5 +1,5 @@
 -- What is the kept calendar of each book that the room represents is the text for which the certificate was made.
-use Rattle.std.proofs.Common.{ℕ, List, subst, sym}
+use Rattle.std.proofs.Common.{ℕ, List, subst}
 use Rattle.ical_values.specs.Octets.{address_octets}
 use Rattle.cal_zones.specs.RoomZones.{room_of, words_of}
 use Rattle.profile.specs.Headline.{KeptTextsPass}

@@ -1,5 +1,5 @@
 -- What becomes of the meeting is a step of the book that the room represents.
-use Rattle.std.proofs.Common.{◌≡◌, ◌∙◌, List, ◌++◌, Option, sym, ap, subst}
+use Rattle.std.proofs.Common.{◌≡◌, List, ◌++◌, Option, sym, ap, subst}
 use Rattle.std.specs.Prelude.{option_copied}
 use Rattle.std.specs.Map.{lookup}
 use Rattle.itip_order.specs.Parts.{part_of}
@@ -10,12 +10,13 @@ use Rattle.profile.specs.rooms.Rooms.{parts_of}
 use Rattle.room_books.specs.Taking.{HasHistory, AreAsked, AreAnswersDecided, answers_by, answers_then, claims_said, kept_then}
 use Rattle.room_books.specs.Slots.{AllTouch}
 use Rattle.room_books.specs.Room.{KeepsEach, book_of}
-use Rattle.room_books.specs.Meeting.{same_key, all_series, all_singles, beside, series_by, singles_by, AreFewer}
+use Rattle.room_books.specs.Meeting.{same_key, all_series, all_singles, beside, series_by, singles_by, AreFewer, SaysLossOfOne}
 use Rattle.cal_events.specs.declared.instance.Single.{Single}
 use Rattle.room_books.specs.Gone.{IsPartedInto}
 use Rattle.room_books.proofs.room_lemmas.Answered.{answered_reordered}
 use Rattle.room_books.proofs.room_lemmas.Afters.{has_history}
 use Rattle.room_books.proofs.shared_lemmas.KindLemmas.{parts_are}
+use Rattle.room_books.proofs.room_lemmas.Freeing.{none_reordered, settled_says}
 use Rattle.room_books.proofs.room_lemmas.MeetingSteps.{meeting_after}
 use Rattle.room_books.proofs.room.Room.settled.Goals as goal
 
@@ -69,3 +70,16 @@ pub answers_after-requires-clause-less : goal.answers_after-requires-clause-less
 answers_after-requires-clause-less c =
     let lost = c.in_ok-change.change.lost.items in let left = c.in_ok-change.change.left.items in
     subst (λ (o : Option Meeting). AreFewer (series_by o) (all_series (kept_then o lost left))) c.requires.before c.in_ok-change.ensures.fewer
+
+pub returns-clause-frees : goal.returns-clause-frees
+returns-clause-frees c = λ history s.
+    let k = c.args.key.now in let es = c.args.self.now.meetings.entries in
+    let found : option_copied c.args.views.now.before ≡ lookup (same_key k) es = c.requires.before in
+    let lost = c.in_ok-change.change.lost.items in let left = c.in_ok-change.change.left.items in
+    let kept = kept_then (lookup (same_key k) es) lost left in
+    let after_it = answers_then (answers_by (lookup (same_key k) es)) c.in_ok-decided.decided.changes in
+    settled_says (singles_by (lookup (same_key k) es)) c.in_ok-change.change.gone.items (series_by (lookup (same_key k) es)) kept after_it c.in_ok-change.change.sheds c.in_ok-decided.decided.frees c.in_ok-decided.decided.outcome
+    (subst (λ (o : Option Meeting). IsPartedInto (singles_by o) c.in_ok-change.change.gone.items (all_singles (kept_then o lost left))) found c.in_ok-change.ensures.parted)
+    (subst (λ (o : Option Meeting). AreFewer (series_by o) (all_series (kept_then o lost left))) found c.in_ok-change.ensures.fewer)
+    (subst (λ (o : Option Meeting). SaysLossOfOne c.in_ok-change.change.sheds (series_by o) (all_series (kept_then o lost left))) found (c.in_ok-change.ensures.sheds history s))
+    c.in_ok-decided.ensures.frees (none_reordered (beside k es) k c.args.views.now.after.now c.args.now kept c.deref.result.now after_it c.in_ok-decided.decided.outcome c.in_ok-decided.ensures.answered)

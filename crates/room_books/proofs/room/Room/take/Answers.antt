@@ -14,6 +14,7 @@ use Rattle.cal_events.specs.declared.method.Method.{Method}
 use Rattle.profile.specs.rooms.Messages.{is_add}
 use Rattle.room_books.proofs.shared_lemmas.Accepting.{steps_accept, steps_decline}
 use Rattle.room_books.proofs.shared_lemmas.Claiming.{first_in, none_first}
+use Rattle.room_books.proofs.room_lemmas.Freeing.{nothing_freed}
 use Rattle.room_books.proofs.room_lemmas.RoomSteps.{none_steps}
 use Rattle.room_books.proofs.room.Room.take.Goals as goal
 
@@ -67,3 +68,7 @@ returns-clause-accepted c message says book st = let s = returns-clause-steps c 
 
 pub returns-clause-declined : goal.returns-clause-declined
 returns-clause-declined c message says book st = let s = returns-clause-steps c message says book st in (s.0, s.1, steps_decline _ _ _ _ _ _ _ _ _ s.2)
+
+pub returns-in_default-clause-frees : goal.returns-in_default-clause-frees
+returns-in_default-clause-frees c = λ before after st st'.
+    nothing_freed c.args.self.now.meetings.entries (kind_view c.silent.result.kind) c.silent.result.frees before after c.keys_differ.ensures c.silent.ensures.frees st st'

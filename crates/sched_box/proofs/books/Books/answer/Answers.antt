@@ -5,7 +5,8 @@ use Rattle.std.proofs.lemmas.Result.{err_from_is_err_and}
 use Rattle.profile.specs.events.Messages.{is_to_rooms}
 use Rattle.cal_events.specs.Component.{method_said}
 use Rattle.sched_box.specs.Answering.{octets_each}
-use Rattle.sched_box.specs.Journal.{fate_said}
+use Rattle.profile.specs.rooms.Messages.{is_cancel}
+use Rattle.sched_box.specs.Journal.{fate_in, fate_said}
 use Rattle.sched_box.proofs.BookLemmas.{organiser_taken, rooms_taken, unhosted, unread}
 use Rattle.sched_box.proofs.books.Books.answer.Goals as goal
 
@@ -19,7 +20,8 @@ returns-then-is_to_rooms-clause-takes c =
     let message = c.in_ok-message.message in
     let to : is_to_rooms (method_said message.method) ≡ true = ap (λ m. is_to_rooms (method_said m)) (sym c.method.ensures) ∙ sym c.is_to_rooms.ensures ∙ c.if-is_to_rooms.true in
     let (more, kinds, is, takes, are) = c.in_ok-effects.ensures.takes in
-    (more, is, rooms_taken c.args.now c.args.octets.now message c.args.self.now _ more kinds (fate_said c.fate.result) c.in_ok-message.ensures.spells to takes (c.fate.ensures kinds are) refl)
+    let cancel = c.is_cancel.ensures ∙ ap (λ m. is_cancel (method_said m)) c.method-then-is_to_rooms.ensures in
+    (more, is, rooms_taken c.args.now c.args.octets.now message c.args.self.now _ more kinds (fate_said c.fate.result) c.in_ok-message.ensures.spells to takes (c.fate.ensures kinds are ∙ ap (λ b. fate_in b kinds) cancel) refl)
 
 pub returns-in_err-sent-clause-fault : goal.returns-in_err-sent-clause-fault
 returns-in_err-sent-clause-fault c =
