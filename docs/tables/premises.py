@@ -21,6 +21,7 @@ GHOST = re.compile(r"\bghost (\w+)\b(?! *use)")
 
 # (kind, what): (verdict, why, or where)
 ASKED = "each call in this repository meets it"
+TAKEN = "a law of what is taken, proved of each reader there is"
 VERDICTS = {
     ("asked", "Folder::sync_temp"): ("proved", ASKED + "; a temporary has been written"),
     ("asked", "Folder::publish"): ("proved", ASKED + "; a temporary has been written"),
@@ -74,6 +75,11 @@ VERDICTS = {
     ("told", "Input.has_failed"): ("tested", "`DeviceReader` marks it when a read fails: `device_tests`, `tests/failing_devices.py`"),
     ("told", "Input.has_ended"): ("tested", "`DeviceReader` marks it when a read gives nothing, and reads no more: `device_tests`, `tests/failing_devices.py`"),
     ("told", "Input.takes"): ("proved", "of a slice of octets, and of `Recorder`, which keeps the octets; of a device and of the door only what may follow them is told"),
+    ("told", "Input.known_follows"): ("proved", TAKEN),
+    ("told", "Input.takes_follows"): ("proved", TAKEN),
+    ("told", "Input.takes_known"): ("proved", TAKEN),
+    ("told", "Input.takes_more"): ("proved", TAKEN),
+    ("told", "Input.takes_nothing"): ("proved", TAKEN),
     ("told", "Input.fills"): ("tested", "how often it was filled, of a reader that counts; a device doesn't"),
     ("told", "Output.contents"): ("tested", "a `Vec` tells it; a device doesn't, and `device_tests` compares"),
     ("told", "Output.has_failed"): ("tested", "`DeviceWriter` marks it when a write or a flush fails: `device_tests`, `tests/failing_devices.py`"),

@@ -418,7 +418,10 @@ impl Room {
         if asked.is_empty() {
             let frees = change.frees();
             let Change {
-                lost, left, gone, ..
+                lost,
+                left,
+                gone,
+                ..
             } = change;
             return Ok(Decided {
                 changes: Changes::of(self.alloc, lost, left)?,
@@ -441,7 +444,10 @@ impl Room {
         let mut new = decided(self.alloc, candidates, &outcome)?;
         let added = added_by(self.alloc, &outcome, singles);
         let Change {
-            lost, left, gone, ..
+            lost,
+            left,
+            gone,
+            ..
         } = change;
         let mut coming = left;
         coming.append(&mut new)?;

@@ -74,8 +74,7 @@ module _ (moment : ℤ) (message : Message) (cancel : is_cancel message.method �
       let here : one.frees ≡ false = false_from_ne_true one.frees (λ e. both_ways _ f (ap (λ b. b || list_any (λ (y : InRoom). y.frees) all) e)) in
       let there : list_any (λ (y : InRoom). y.frees) all ≡ false = sym (ap (λ b. b || list_any (λ (y : InRoom). y.frees) all) here) ∙ f in
       let kind_is : kind ≡ one.kind = ap (first_of kind) (sym is) in
-      let others_are : others ≡ kinds_of all = ap rest_of (sym is) in
-      (
+      let others_are : others ≡ kinds_of all = ap rest_of (sym is) in (
         tells.kept here (cancel_undecided moment message x a one.kind cancel (subst (BecomesThere moment message x a) kind_is became)),
         all_keep all bs afters (subst (AllBecome moment message bs afters) others_are more) rest there,
       )
@@ -122,9 +121,9 @@ is_fate moment message all befores afters fate became tells is = elim (cases_Boo
     | inl cancel ↦ elim (cases_Bool frees) [
       | inl one ↦ inr ((λ f. one_frees all befores afters tells one f.keeps), is ∙ with_quiet false some (ap (λ b. b && not frees) cancel ∙ ap not one))
       | inr no_one ↦ inl (
-          record { cancel = cancel; taken = is_taken (kinds_of all) some; keeps = all_keep moment message cancel all befores afters became tells no_one },
-          is ∙ with_quiet true some (ap (λ b. b && not frees) cancel ∙ ap not no_one),
-        )
+        record { cancel = cancel; taken = is_taken (kinds_of all) some; keeps = all_keep moment message cancel all befores afters became tells no_one },
+        is ∙ with_quiet true some (ap (λ b. b && not frees) cancel ∙ ap not no_one),
+      )
     ]
   ]
 ]

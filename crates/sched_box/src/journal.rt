@@ -33,11 +33,8 @@ impl Fate {
     {
         match self {
             Fate::Refused(_) => 1,
-            Fate::Unreached
-            | Fate::Stale
-            | Fate::Repeated
-            | Fate::CancelsNothing
-            | Fate::Taken => 0,
+            Fate::Unreached | Fate::Stale | Fate::Repeated | Fate::CancelsNothing | Fate::Taken =>
+                0,
         }
     }
 }

@@ -116,11 +116,8 @@ fn is_taken(fate: Fate) -> bool
 {
     match fate {
         Fate::Taken => true,
-        Fate::Refused(_)
-        | Fate::Unreached
-        | Fate::Stale
-        | Fate::Repeated
-        | Fate::CancelsNothing => false,
+        Fate::Refused(_) | Fate::Unreached | Fate::Stale | Fate::Repeated | Fate::CancelsNothing =>
+            false,
     }
 }
 
