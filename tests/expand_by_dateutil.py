@@ -50,14 +50,18 @@ def ring(_signal, _frame):
 
 
 def quickly(make):
-    """What is made, None where dateutil takes too long."""
-    signal.setitimer(signal.ITIMER_REAL, 0.5)
+    """What is made, None where dateutil takes too long. The bell may ring once more while it is being put off."""
+    made = None
     try:
-        return make()
+        try:
+            signal.setitimer(signal.ITIMER_REAL, 0.5)
+            made = make()
+        finally:
+            signal.setitimer(signal.ITIMER_REAL, 0)
     except TooSlow:
-        return None
-    finally:
-        signal.setitimer(signal.ITIMER_REAL, 0)
+        made = None
+    signal.setitimer(signal.ITIMER_REAL, 0)
+    return made
 
 
 # ---- random rules
