@@ -196,7 +196,8 @@ def rows(program, folder):
     page = [program, "agenda", kept, room, "--html", "--from", "20250309T000000Z", "--until", "20250312T000000Z", f"--zone={NEW_YORK}"]
     conversation = (ROOT / "examples" / "organiser-conversation.ics-stream").read_bytes()
     return [
-        ("an object with history at the door", [program, "adapt"], history, [b"", readable]),
+        # the first octet of an object is handed on as soon as it has come
+        ("an object with history at the door", [program, "adapt"], history, [b"", readable[:1], readable]),
         ("an answer on its way back", back, answer, [b"", ample(back, answer)]),
         ("an agenda", [program, "agenda", kept, room], b"", [b"", b"20250310T090000Z 20250310T100000Z a mailto:ann@example.com\n"]),
         ("when a room is free", [program, "agenda", kept, room, "--free", "--from", "20250310T000000Z", "--until", "20250311T000000Z"], b"",
