@@ -533,6 +533,8 @@ def said_as_listed(ended, case):
     counts = rb"roombox: \d+ objects?, [^\n]*\n" if "--report" in case.words and case.words[:1] != ["adapt"] else rb""
     if case.words[:1] == ["agenda"]:
         counts = rb"(roombox: (1 event names [\x21-\x7e]+ and isn't|\d+ events name [\x21-\x7e]+ and aren't) accepted\n)?"
+    if case.words[:1] == ["check"] and ended.output == b"no 80\n":
+        counts = rb"(roombox: UID [\x20-\x7e]+\n)?"
     return re.fullmatch(lines + forms.get(ended.status, counts), ended.said, re.DOTALL)
 
 
