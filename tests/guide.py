@@ -644,6 +644,7 @@ def explained_objects(cases, program):
         ("no DTSTAMP in a store", "61 at line 3: BEGIN\nVEVENT at line 3: it has no DTSTAMP.", {3: "", 6: ""}),
         ("neither in a store", "61 at line 3: BEGIN\nVEVENT at line 3: it has no DTSTAMP.", {3: "", 6: "", 9: ""}),
         ("SEQUENCE twice", "61 at line 12: SEQUENCE\nVEVENT at line 4: SEQUENCE occurs twice in it.", {10: "DURATION:PT1H|SEQUENCE:1|SEQUENCE:2"}),
+        ("RRULE twice in an ADD", "61 at line 12: RRULE\nVEVENT at line 4: RRULE occurs twice in it.", {3: "METHOD:ADD", 10: "DURATION:PT1H|RRULE:FREQ=DAILY;COUNT=2|RRULE:FREQ=WEEKLY;COUNT=2"}),
         ("a VEVENT of its own name in lower case", "61 at line 4: begin\nvevent at line 4: it has no UID.", {4: "begin:vevent", 5: "", 11: "end:vevent"}),
         ("DTEND beside DURATION", "61 at line 10: DURATION\nVEVENT at line 4: DURATION stands beside DTEND in it.", {10: "DURATION:PT1H|DTEND:20250310T100000Z"}),
         ("the second of two VEVENTs without a UID", "61 at line 12: BEGIN\nVEVENT at line 12: it has no UID.", {11: "|".join(["END:VEVENT", OBJECT[3], *OBJECT[5:11]])}),

@@ -1,5 +1,6 @@
 pub mod BlameLemmas
 pub mod CauseLemmas
+pub mod FlawLemmas
 pub mod ObstacleLemmas
 pub mod PlaceLemmas
 pub mod RefusedLemmas

@@ -8,7 +8,7 @@ mod open_components;
 mod place;
 mod refused_zone;
 
-pub use event_flaw::{FlawKind, PlacedFlaw, flaw_in_object};
+pub use event_flaw::{FlawKind, ObjectFlaw, PlacedFlaw, flaw_in_object};
 pub use obstacle::{Obstacle, PartTime};
 pub use place::{Place, Sought, Spot, place_of};
 pub use refused_zone::{InTheWay, in_the_way};

@@ -1,9 +1,10 @@
 //! What is in the way of a VTIMEZONE that an object is refused for, and where in the object it is (RFC 5545 3.2.19, 3.6.5).
 
-ghost use Rattle.std.specs.Prelude.{◌≡◌, true, IfOk, IfSome};
+ghost use Rattle.std.specs.Prelude.{◌≡◌, ℕ, true, IfNone, IfOk, IfSome};
 ghost use Rattle.ical_lines.specs.Text.{line_text};
+ghost use Rattle.ical_tree.specs.Reading.{TreeHas};
 ghost use Rattle.ical_tree.specs.Tree.{IsObjectOf, component_lines, tree_of};
-ghost use Rattle.profile.specs.text.Lines.{logical_lines};
+ghost use Rattle.profile.specs.text.Lines.{logical_lines, text_has};
 ghost use Rattle.profile.specs.series.ZoneTexts.{ZoneFault};
 ghost use Rattle.cal_doors.specs.Named.{AreNamed};
 ghost use Rattle.fault_places.specs.InTheWay.{IsInTheWay, IsPlacedInOctets, IsRefusedAs, NamesRefused, RefusedBy, sought_line};
@@ -55,7 +56,8 @@ pub fn in_the_way(alloc: Global, octets: &[u8], number: u8) -> Result<Option<InT
 
 /// The lines of octets within the limits of a message. None where they aren't.
 pub(crate) fn text_of(alloc: Global, octets: &[u8]) -> Result<Option<Unfolded<'_>>, AllocError>
-    ensures { IfOk result (λ found. IfSome found (λ text. text ≡ logical_lines octets.now)) }
+    ensures found { IfOk result (λ found. IfSome found (λ text. text ≡ logical_lines octets.now)) }
+    ensures none { IfOk result (λ found. IfNone found ((n : ℕ) × (text_has true n octets.now ≡ true))) }
 {
     match Unfolded::read(alloc, octets, Limits::Message) {
         Ok(text) => Ok(Some(text)),
@@ -69,7 +71,8 @@ pub(crate) fn object_of<'a>(
     alloc: Global,
     text: &'a Unfolded<'_>,
 ) -> Result<Option<Component<'a>>, AllocError>
-    ensures { IfOk result (λ found. IfSome found (λ object. IsObjectOf true object text.now)) }
+    ensures found { IfOk result (λ found. IfSome found (λ object. IsObjectOf true object text.now)) }
+    ensures none { IfOk result (λ found. IfNone found ((n : ℕ) × TreeHas true n text.now)) }
 {
     match read_object(alloc, text, Limits::Message) {
         Ok(object) => Ok(Some(object)),

@@ -12,7 +12,7 @@ use crate::status::{DONE, NO, report_memory, report_write};
 use cal_doors::adapt;
 use cal_events::Method;
 use fault_places::{
-    FlawKind, InTheWay, Place, PlacedFlaw, Sought, flaw_in_object, in_the_way, place_of,
+    FlawKind, InTheWay, ObjectFlaw, Place, PlacedFlaw, Sought, flaw_in_object, in_the_way, place_of,
 };
 use ical_lines::Fault;
 use itip_messages::Message;
@@ -123,7 +123,7 @@ fn append_line(
 ) -> Result<(), AllocError>
     ensures { OnOk result ((reason : List ℕ) × IsReason octets.now number reason × (text.new.items ≡ text.old.items ++ reason)) }
 {
-    let Some(found) = flaw_in_object(alloc, octets, number)? else {
+    let ObjectFlaw::Placed(found) = flaw_in_object(alloc, octets, number)? else {
         append_blamed(alloc, text, octets, number)?;
         return end_line(text);
     };

@@ -18,9 +18,9 @@ pub returns : goal.returns
 returns c =
     let octets = c.args.octets.now in
     let n = c.args.number in
-    let lines = subst (λ o. IfSome o (λ text. text ≡ logical_lines octets)) c.in-Some.is c.in_ok-text.ensures in
+    let lines = subst (λ o. IfSome o (λ text. text ≡ logical_lines octets)) c.in-Some.is c.in_ok-text.ensures.found in
     let object = c.in-Some-2.object in
-    let spelled = subst (λ o. IfSome o (λ x. IsObjectOf true x c.in-Some.text)) c.in-Some-2.is c.in_ok-object.ensures in
+    let spelled = subst (λ o. IfSome o (λ x. IsObjectOf true x c.in-Some.text)) c.in-Some-2.is c.in_ok-object.ensures.found in
     let zone = c.in-Some-3.zone.now in
     let refused = subst (λ o. IfSome o (λ z. NamesRefused object n z.now)) c.in-Some-3.is c.in_ok-zone.ensures in
     let found = c.in-Some-4.found in
