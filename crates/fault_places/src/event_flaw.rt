@@ -66,7 +66,7 @@ pub struct PlacedFlaw {
 /// What is wrong with the properties of the VEVENTs of an object that is refused with 61 or 63.
 #[derive(Drop)]
 pub enum ObjectFlaw {
-    /// The first VEVENT that has a flaw has this one, there.
+    /// A VEVENT has this flaw, there.
     Placed(PlacedFlaw),
     /// A VEVENT has a flaw; where it stands isn't known.
     Unplaced,
