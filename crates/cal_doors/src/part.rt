@@ -4,6 +4,7 @@ ghost use Rattle.std.specs.Prelude.{◌≡◌, true, map, nat_le, IfOk, IfErr, O
 ghost use Rattle.std.specs.List.{list_all};
 ghost use Rattle.ical_lines.specs.Fault.{RefusesBy};
 ghost use Rattle.ical_lines.specs.Text.{line_text};
+ghost use Rattle.ical_tree.specs.Own.{own_lines};
 ghost use Rattle.ical_tree.specs.Tree.{component_name, component_lines};
 ghost use Rattle.profile.specs.events.Properties.{is_date_time};
 ghost use Rattle.profile.specs.series.Days.{day_index};
@@ -52,8 +53,8 @@ struct Times {
 /// The times of a part. Refused with 40 where one of the three is missing or occurs twice, or DTSTART isn't a local time without a zone;
 /// with 11 or 13 where a value isn't one.
 fn read_times(properties: &Properties<'_>) -> Result<Times, Refusal>
-    ensures says { IfOk result (λ t. AreTimes properties.now t.start t.from t.to) }
-    ensures fault { IfErr result (λ e. RunsFault properties.now e.number) }
+    ensures says { IfOk result (λ t. AreTimes (own_lines properties.now) t.start t.from t.to) }
+    ensures fault { IfErr result (λ e. RunsFault (own_lines properties.now) e.number) }
 {
     let line = properties.required("DTSTART", Refusal::ZONE_SHAPE)?;
     let start = read_local(line)?;
@@ -70,9 +71,9 @@ fn add_first(
     times: &Times,
     runs: &mut Vec<Run>,
 ) -> Result<(), Fault>
-    requires { AreTimes properties.now times.now.start times.now.from times.now.to }
-    ensures adds { OnOk result (AddsFirst properties.now times.now.start times.now.from times.now.to (runs_in runs.old.items) (runs_in runs.new.items)) }
-    ensures fault { IfErr result (RefusesBy (RunsFault properties.now)) }
+    requires { AreTimes (own_lines properties.now) times.now.start times.now.from times.now.to }
+    ensures adds { OnOk result (AddsFirst (own_lines properties.now) times.now.start times.now.from times.now.to (runs_in runs.old.items) (runs_in runs.new.items)) }
+    ensures fault { IfErr result (RefusesBy (RunsFault (own_lines properties.now))) }
 {
     let Some(line) = properties.optional("RRULE", Refusal::ZONE_SHAPE)? else {
         runs.push(Run::once(times.start, times.from, times.to))?;
@@ -112,8 +113,8 @@ fn add_days(days: &[Day], times: &Times, runs: &mut Vec<Run>) -> Result<(), Allo
 
 /// Adds a run for each local time of the RDATEs. Refused with 40 where one says something else.
 fn add_dates(properties: &Properties<'_>, times: &Times, runs: &mut Vec<Run>) -> Result<(), Fault>
-    ensures adds { OnOk result (AddsDates times.now.from times.now.to properties.now (runs_in runs.old.items) (runs_in runs.new.items)) }
-    ensures fault { IfErr result (RefusesBy (DatesFault properties.now)) }
+    ensures adds { OnOk result (AddsDates times.now.from times.now.to (own_lines properties.now) (runs_in runs.old.items) (runs_in runs.new.items)) }
+    ensures fault { IfErr result (RefusesBy (DatesFault (own_lines properties.now))) }
 {
     for line in properties.lines() {
         if line.is_named("RDATE") {

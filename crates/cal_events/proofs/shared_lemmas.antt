@@ -1,4 +1,6 @@
 pub mod EventLemmas
+pub mod LineBlame
+pub mod LaterLemmas
 pub mod ReadingLemmas
 pub mod TreeLemmas
 pub mod Meanings
@@ -14,6 +16,7 @@ pub mod OwnSingles
 pub mod SeriesLemmas
 pub mod NamingLemmas
 pub mod BlamedLemmas
+pub mod BlameLemmas
 pub mod DraftLemmas
 pub mod Distinct
 pub mod InstanceLemmas

@@ -1,5 +1,5 @@
 -- A calendar while its VEVENTs are read.
-use Rattle.std.specs.Prelude.{ℕ, suc, List, [], ◌∷◌, ◌++◌, ◌≡◌, ◌⊎◌, ◌||◌, map, filter, All, AllPairs, Contains, Bool, true, false, not, Option, None, Some, is_some, ℤ, pos}
+use Rattle.std.specs.Prelude.{ℕ, suc, List, [], ◌∷◌, ◌++◌, ◌≡◌, ◌⊎◌, ◌||◌, map, filter, length, All, AllPairs, Contains, Bool, true, false, not, Option, None, Some, is_some, ℤ, pos}
 use Rattle.std.specs.Ordering.{is_eq}
 use Rattle.std.specs.List.{list_any, filter_map}
 use Rattle.std.specs.List.Sorted.{IsPermutation, IsSortedByKey}
@@ -67,6 +67,7 @@ AreDrawn room place (event ∷ events) singles =
 pub record IsDraft (room : List ℕ) (events : List EventComponent) (draft : Draft) : Type 0 where
   pub said : All IsSaid events
   pub entries : draft.entries ≡ map name_said events
+  pub begins : length draft.begins.items ≡ length events
   pub series : map component_of draft.series.items ≡ filter (is_series room) events
   pub singles : AreDrawn room 0 events draft.singles.items
   pub naming : IsNaming room events draft.naming

@@ -1,3 +1,5 @@
+pub mod Begins
+pub mod Blame
 pub mod Calendar
 pub mod Texts
 pub mod Entries

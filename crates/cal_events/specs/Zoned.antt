@@ -2,10 +2,14 @@
 use Rattle.std.specs.Prelude.{◌≡◌, ◌↔◌, ℕ, Bool, true, false, IsTrue, List, codes, Option, Some, None, ℤ, pos, negsuc, ◌≤ℤ◌, ◌+ℤ◌}
 use Rattle.profile.specs.text.Trees.{Tree}
 use Rattle.profile.specs.series.Zones.{Zone, Means}
+use Rattle.profile.specs.faults.Blame.{Numbered}
+use Rattle.profile.specs.events.EventBlame.{may_have}
+use Rattle.profile.specs.events.EventComponents.{DTSTART, DTEND, DURATION}
 use Rattle.profile.specs.events.EventRules.{IsRuleText}
 use Rattle.profile.specs.events.Properties.{LastsFor, OccursAtMostOnce, IsMissing, Says}
 use Rattle.profile.specs.events.ZonedTimes.{is_in_zone, IsInDates, SaysZonedTime, clock_of}
 use Rattle.cal_events.specs.Component.{length_of, form_of, form_said, zone_said, local_said}
+use Rattle.cal_events.specs.Occurrences.{IsLineNamed}
 use Rattle.cal_events.specs.declared.event_rule.SaidRule.{SaidRule}
 use Rattle.cal_events.specs.declared.event_times.Extent.{Extent}
 use Rattle.cal_events.specs.declared.event_times.Extent.TheVariants.{To, For, Open}
@@ -58,8 +62,26 @@ pub record AreSaidAlone (object : Tree) (lines : List (List ℕ)) (extent : Exte
 
 -- what the three say, where DTSTART may be missing or not
 abbrev pub AreSaidBy : Bool → Tree → List (List ℕ) → SaidTimes → Type 0
-AreSaidBy may_lack object lines (From start instant in_dates extent) = AreSaid object lines start instant in_dates extent
-AreSaidBy may_lack object lines (Alone extent) = (may_lack ≡ true) × AreSaidAlone object lines extent
+AreSaidBy may_lack object lines (From start instant in_dates extent _) = AreSaid object lines start instant in_dates extent
+AreSaidBy may_lack object lines (Alone extent _) = (may_lack ≡ true) × AreSaidAlone object lines extent
+
+-- ---- at which lines
+
+-- DTEND or DURATION is at this line of the VEVENT
+abbrev pub IsExtentLine : Numbered → Extent → ℕ → Type 0
+IsExtentLine event (To end) at = IsLineNamed DTEND event at
+IsExtentLine event (For duration) at = IsLineNamed DURATION event at
+IsExtentLine event Open at = Unit {0}
+
+abbrev pub AreLinesSaid : Numbered → SaidTimes → Type 0
+AreLinesSaid event (From _ _ _ extent lines) = IsLineNamed DTSTART event lines.start × IsExtentLine event extent lines.extent
+AreLinesSaid event (Alone extent lines) = IsExtentLine event extent lines.extent
+
+-- DTEND or DURATION may have the fault of this number beside DTSTART
+abbrev pub MayHave : Extent → ℕ → Type 0
+MayHave (To end) n = may_have DTEND n ≡ true
+MayHave (For duration) n = may_have DURATION n ≡ true
+MayHave Open n = ⊥
 
 -- what RRULE says by itself
 abbrev pub IsRuleSaid : List (List ℕ) → SaidRule → Type 0

@@ -1,12 +1,15 @@
 //! One VEVENT, read: its values, judged one property after another in a fixed order, and then
 //! together (RFC 5545 3.6.1).
 ghost use Rattle.std.specs.Prelude.{ℕ, List, [], true, is_some, unwrap_or, ◌≡◌, pos, ◌+ℤ◌, option_map, IfOk, IfErr, Option};
-ghost use Rattle.ical_lines.specs.Fault.{RefusesBy};
+ghost use Rattle.ical_lines.specs.Fault.{RefusesBy, RefusesWhere};
+ghost use Rattle.ical_tree.specs.Own.{own_lines, numbered_own};
 ghost use Rattle.ical_values.specs.Octets.{address_octets};
 ghost use Rattle.profile.specs.text.Trees.{Tree};
 ghost use Rattle.profile.specs.events.EventComponents.{EventComponent as SaidComponent, Method as SaidMethod, answer_named, answer_of, SaysEventComponent, EventComponentFault};
 ghost use Rattle.profile.specs.events.Properties.{length_seconds, TimeFault};
 ghost use Rattle.profile.specs.events.ZonedTimes.{clock_of};
+ghost use Rattle.profile.specs.events.EventBlame.{EventBlame};
+ghost use Rattle.cal_events.specs.Blame.{zones_of};
 ghost use Rattle.cal_events.specs.Zones.{object_of, AreRead};
 ghost use Rattle.cal_events.specs.MeetingComponents.{IsInEventDates};
 ghost use Rattle.cal_events.specs.Clocks.{IsSteady};
@@ -76,6 +79,8 @@ pub struct Attendee {
 /// What a VEVENT says.
 #[derive(Drop)]
 pub struct EventComponent {
+    /// The number of its BEGIN among the logical lines of the octets that it was read from.
+    pub begun: usize,
     pub uid: Text,
     /// None where ORGANIZER is missing, which only a calendar may have.
     pub organiser: Option<Address>,
@@ -124,8 +129,10 @@ impl EventComponent {
         method: Option<Method>,
     ) -> Result<EventComponent, Fault>
         requires zones { AreRead zones.now }
-        ensures says { IfOk result (λ event. SaysEventComponent (object_of zones.now) (method_read method) properties.now (component_of event)) }
-        ensures fault { IfErr result (RefusesBy (EventComponentFault (object_of zones.now) (method_read method) properties.now)) }
+        ensures says { IfOk result (λ event. SaysEventComponent (object_of zones.now) (method_read method) (own_lines properties.now) (component_of event)) }
+        ensures fault { IfErr result (RefusesBy (EventComponentFault (object_of zones.now) (method_read method) (own_lines properties.now))) }
+        ensures begun { IfOk result (λ event. event.begun ≡ properties.now.begun) }
+        ensures at { IfErr result (RefusesWhere (EventBlame (method_read method) (zones_of zones.now) (numbered_own properties.now))) }
     {
         let uid = read_uid(alloc, properties, method)?;
         let organiser = read_organiser(alloc, properties, method)?;
@@ -151,6 +158,7 @@ impl EventComponent {
         let additions = instants_of(alloc, &written.additions)?;
         let exceptions = instants_of(alloc, &written.exceptions)?;
         Ok(EventComponent {
+            begun: properties.begun(),
             uid,
             organiser,
             stamp,

@@ -1,8 +1,9 @@
 //! A calendar while its VEVENTs are read, one after another.
-ghost use Rattle.std.specs.Prelude.{ℕ, List, [], ◌∷◌, ◌++◌, ◌≡◌, ◌≢◌, ◌<◌, map, filter, length, AllPairs, is_some, ◌&&◌, true, IfOk, IfErr, OnOk};
-ghost use Rattle.ical_lines.specs.Fault.{RefusesOnly, RefusesBy};
+ghost use Rattle.ical_tree.specs.Own.{own_lines, own_numbered};
+ghost use Rattle.std.specs.Prelude.{ℕ, List, [], ◌∷◌, ◌++◌, ◌≡◌, ◌≢◌, ◌<◌, ◌≤◌, map, filter, length, AllPairs, is_some, ◌&&◌, true, IfOk, IfErr, OnOk};
+ghost use Rattle.ical_lines.specs.Fault.{RefusesOnly, RefusesBy, RefusesWhere};
 ghost use Rattle.ical_values.specs.Octets.{address_octets};
-ghost use Rattle.ical_tree.specs.Tree.{component_lines, tree_of};
+ghost use Rattle.ical_tree.specs.Tree.{component_lines, component_numbered, events_in, tree_of};
 ghost use Rattle.profile.specs.faults.Faults.{is_between, is_calendar_fault};
 ghost use Rattle.profile.specs.checker.Calendars.{CalendarFault, CalendarTextFault};
 ghost use Rattle.profile.specs.events.EventComponents.{EventComponent as SaidComponent};
@@ -10,6 +11,8 @@ ghost use Rattle.profile.specs.events.Events.{is_master};
 ghost use Rattle.profile.specs.events.Starts.{EndsAt};
 ghost use Rattle.profile.specs.text.Values.{IsClockSeconds};
 ghost use Rattle.profile.specs.events.Confirmed.{is_kept, AreConfirmed, MastersDiffer, OverridesDiffer};
+ghost use Rattle.cal_events.specs.Begins.{BetweenBlame, IsLater};
+ghost use Rattle.cal_events.specs.Blame.{CalendarBlame};
 ghost use Rattle.cal_events.specs.Component.{component_of};
 ghost use Rattle.cal_events.specs.Calendar.{key_of, AreWithin};
 ghost use Rattle.cal_events.specs.Draft.{AreOwnAt, IsDraft, IsDraftOf, IsDraftIn, IsSaid, AreSorted, AreInOrder, master_keys, override_keys, is_shown_in, AreSinglesShown, IsTwoOf};
@@ -35,6 +38,8 @@ use std::alloc::{AllocError, Global};
 #[derive(Drop)]
 pub(crate) struct Draft {
     entries: Entries,
+    /// Of each VEVENT the number of its BEGIN.
+    begins: Vec<usize>,
     singles: Vec<PlacedSingle>,
     series: Vec<EventComponent>,
     pub(crate) naming: Naming,
@@ -43,10 +48,12 @@ pub(crate) struct Draft {
 impl Draft {
     /// Without VEVENTs.
     pub(crate) fn new(alloc: Global) -> Draft
-        ensures { (room : List ℕ) → IsDraft room [] result }
+        ensures draft { (room : List ℕ) → IsDraft room [] result }
+        ensures begun { result.begins.items ≡ [] }
     {
         Draft {
             entries: Entries::new(alloc),
+            begins: Vec::new(alloc),
             singles: Vec::new(alloc),
             series: Vec::new(alloc),
             naming: Naming::none(),
@@ -73,10 +80,12 @@ impl Draft {
         own: &Properties<'_>,
         room: &Address,
     ) -> Result<Draft, Fault>
-        requires { own.now ≡ component_lines object.now }
+        requires { own_lines own.now ≡ component_lines object.now }
         ensures says { IfOk result (IsDraftOf (address_octets room.now) (tree_of object.now)) }
         ensures refuses { IfErr result (RefusesOnly is_calendar_fault) }
         ensures fault { IfErr result (RefusesBy (CalendarFault (tree_of object.now))) }
+        ensures begun { IfOk result (λ draft. draft.begins.items ≡ map (λ event. event.begun) (events_in object.now)) }
+        ensures at { own_numbered own.now ≡ component_numbered object.now → IfErr result (RefusesWhere (CalendarBlame object.now)) }
     {
         let zone = read_room_zone(alloc, own)?;
         // Only for the proof: its words mean it.
@@ -100,10 +109,12 @@ impl Draft {
         room: &Address,
     ) -> Result<(), AllocError>
         requires { IsSaid (component_of event) }
-        ensures { (events : List SaidComponent) → IsDraft (address_octets room.now) events self.old → OnOk result (IsDraft (address_octets room.now) (events ++ component_of event ∷ []) self.new) }
+        ensures draft { (events : List SaidComponent) → IsDraft (address_octets room.now) events self.old → OnOk result (IsDraft (address_octets room.now) (events ++ component_of event ∷ []) self.new) }
+        ensures begun { OnOk result (self.new.begins.items ≡ self.old.begins.items ++ event.begun ∷ []) }
     {
         let place = self.entries.len();
         self.entries.push(alloc, &event)?;
+        self.begins.push(event.begun)?;
         // Only for the proof: no more are counted than there are.
         let _ = self.entries.len();
         self.naming = self.naming.with(&event, room);
@@ -118,24 +129,27 @@ impl Draft {
     }
 
     /// The calendar of these VEVENTs.
-    /// Refused: 53 for two masters of one meeting, 54 for two overrides of one instance. In time n log n.
+    /// Refused: 53 for two masters of one meeting, 54 for two overrides of one instance. In time n log n, and where it is refused log n as often.
     pub(crate) fn into_calendar(self, alloc: Global) -> Result<Calendar, Fault>
         requires { (room : List ℕ) × (events : List SaidComponent) × IsDraft room events self }
         ensures masters { (room : List ℕ) (events : List SaidComponent) → IsDraft room events self → IfOk result (λ _. MastersDiffer events × OverridesDiffer events) }
         ensures are { (room : List ℕ) (events : List SaidComponent) → IsDraft room events self → IfOk result (AreConfirmed room events) }
         ensures refuses { IfErr result (RefusesOnly (is_between 53 54)) }
         ensures fault { (room : List ℕ) (events : List SaidComponent) → IsDraft room events self → IfErr result (RefusesBy (IsTwoOf events)) }
+        ensures at { IfErr result (RefusesWhere (BetweenBlame self.begins.items)) }
     {
         let Draft {
             entries,
+            begins,
             singles,
             series,
             ..
         } = self;
         if has_equal_neighbours(&keys_of_masters(alloc, &entries)?) {
-            return Err(Fault::Refused(Refusal::TWO_MASTERS));
+            let line = begin_of_twin(alloc, &entries, &begins, true)?;
+            return Err(Fault::Refused(Refusal::TWO_MASTERS.at(line)));
         }
-        let (singles, series) = shown(alloc, &entries, singles, series)?;
+        let (singles, series) = shown(alloc, &entries, &begins, singles, series)?;
         Ok(Calendar {
             entries,
             singles,
@@ -149,23 +163,74 @@ impl Draft {
 fn shown(
     alloc: Global,
     entries: &Entries,
+    begins: &[usize],
     singles: Vec<PlacedSingle>,
     masters: Vec<EventComponent>,
 ) -> Result<(Vec<PlacedSingle>, Vec<Series>), Fault>
+    requires begins { length begins.now ≡ length entries.now }
     requires within { AreWithin entries.now singles.items }
     requires masters { AreMasters masters.items }
     ensures differ { IfOk result (λ _. AllPairs ◌≢◌ (override_keys entries.now)) }
     ensures shown { IfOk result (λ left. AreSinglesShown entries.now singles.items left.0.items) }
     ensures ruled { IfOk result (λ left. AreRuled entries.now masters.items left.1.items) }
     ensures fault { IfErr result (RefusesBy (λ n. (n ≡ 54) × (AllPairs ◌≢◌ (override_keys entries.now) → ⊥))) }
+    ensures at { IfErr result (RefusesWhere (BetweenBlame begins.now)) }
 {
     let overrides = keys_of_overrides(alloc, entries)?;
     if has_equal_neighbours(&overrides) {
-        return Err(Fault::Refused(Refusal::TWO_OVERRIDES));
+        let line = begin_of_twin(alloc, entries, begins, false)?;
+        return Err(Fault::Refused(Refusal::TWO_OVERRIDES.at(line)));
     }
     let singles = without_hidden(alloc, entries, singles, &overrides)?;
     let series = series_of(alloc, masters, &overrides)?;
     Ok((singles, series))
+}
+
+/// The number of the BEGIN of the first master of the meeting of an earlier one, or of the first override for the instance of an earlier one, where
+/// there is one. It fails only when out of memory.
+fn begin_of_twin(
+    alloc: Global,
+    entries: &Entries,
+    begins: &[usize],
+    masters: bool,
+) -> Result<usize, AllocError>
+    requires two { 1 < length entries.now }
+    requires begins { length begins.now ≡ length entries.now }
+    ensures { IfOk result (IsLater begins.now) }
+{
+    // No two of the first so many are twins, and two of the first so many.
+    let mut apart: usize = 1;
+    let mut twins = begins.len();
+    while apart + 1 < twins {
+        let middle = apart + (twins - apart) / 2;
+        if have_twins(alloc, entries, middle, masters)? {
+            twins = middle;
+        } else {
+            apart = middle;
+        }
+    }
+    Ok(begins[twins - 1])
+}
+
+/// Whether two of the first so many masters are of one meeting, or two of the first so many overrides for one instance.
+/// No clause says so: it is asked of refused ones alone.
+fn have_twins(
+    alloc: Global,
+    entries: &Entries,
+    count: usize,
+    masters: bool,
+) -> Result<bool, AllocError>
+    requires { count ≤ length entries.now }
+{
+    let mut keys = Vec::new(alloc);
+    for place in 0..count {
+        let recurrence = entries.recurrence(place);
+        if recurrence.is_none() == masters {
+            keys.push(entries.key_at(place, recurrence.unwrap_or(0)))?;
+        }
+    }
+    keys.sort_unstable();
+    Ok(has_equal_neighbours(&keys))
 }
 
 /// The series of the masters, where overrides replace these instances, in order. It fails only when out of memory.

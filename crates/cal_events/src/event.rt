@@ -1,8 +1,9 @@
 //! An event with its instances: when its master takes place, and its overrides (RFC 5545 3.8.4.4), read from one object whatever its METHOD.
 
 ghost use Rattle.std.specs.Prelude.{◌≡◌, ◌↔◌, ◌≤ℤ◌, ℕ, List, [], Option, Some, None, Contains, map, option_map, ℤ, IfOk, IfErr};
-ghost use Rattle.ical_lines.specs.Fault.{RefusesOnly, RefusesBy};
-ghost use Rattle.ical_tree.specs.Tree.{tree_of};
+ghost use Rattle.ical_lines.specs.Fault.{RefusesOnly, RefusesBy, RefusesWhere};
+ghost use Rattle.ical_tree.specs.Tree.{events_in, tree_of, zones_in};
+ghost use Rattle.profile.specs.events.EventBlame.{EventsBlame};
 ghost use Rattle.profile.specs.checker.Instances.{Instance as SaidInstance};
 ghost use Rattle.profile.specs.events.Events.{Event as SaidEvent, SaysEvent, SpellsEvent, EventFault, EventTextFault, is_meeting_fault, components_of, AreOfOne};
 ghost use Rattle.profile.specs.series.Zones as zones;
@@ -91,6 +92,7 @@ impl Event {
         ensures says { IfOk result (TakesPlaceAs (SaysEvent (room_of room.now) (tree_of object.now) None)) }
         ensures refuses { IfErr result (RefusesOnly is_meeting_fault) }
         ensures fault { IfErr result (RefusesBy (EventFault (room_of room.now) (tree_of object.now) None)) }
+        ensures at { IfErr result (RefusesWhere (EventsBlame None (zones_in object.now) (events_in object.now))) }
     {
         // Only for the proof: the words of the room mean its zone.
         room.words_mean();

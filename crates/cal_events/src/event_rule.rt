@@ -1,8 +1,9 @@
 //! The rule of a VEVENT (RFC 5545 3.3.10, 3.8.5.3): first the text of its RRULE, then the rule that it gives from the event's start on.
 
-ghost use Rattle.std.specs.Prelude.{◌≡◌, ◌<◌, ℕ, List, IfOk, IfErr, MatchOption, Some, option_map, Bool, codes};
+ghost use Rattle.std.specs.Prelude.{◌≡◌, ◌<◌, ℕ, List, IfOk, IfErr, MatchOption, Some, option_map, is_some, true, Bool, codes};
 ghost use Rattle.std.specs.List.{list_any};
-ghost use Rattle.ical_lines.specs.Fault.{RefusesBy};
+ghost use Rattle.ical_lines.specs.Fault.{RefusesBy, RefusesWhere};
+ghost use Rattle.ical_tree.specs.Own.{own_lines, numbered_own};
 ghost use Rattle.cal_rules.specs.Views.{until_of};
 ghost use Rattle.cal_zones.specs.Kinds.{zone_of};
 ghost use Rattle.profile.specs.series.Days.{day_index};
@@ -11,7 +12,10 @@ ghost use Rattle.profile.specs.events.Properties.{is_of};
 ghost use Rattle.profile.specs.events.ZonedTimes.{SaysTimes, clock_of};
 ghost use Rattle.profile.specs.events.EventRules as event_rules;
 ghost use Rattle.profile.specs.events.EventRules.{IsLastAllowed, AllowsNone, GivesRule, SaysEventRule, IsOutsideRule, EventRuleFault};
-ghost use Rattle.profile.specs.events.EventComponents.{EventComponentFault};
+ghost use Rattle.profile.specs.events.EventComponents.{RRULE, EventComponentFault};
+ghost use Rattle.profile.specs.events.EventBlame.{EventBlame};
+ghost use Rattle.profile.specs.series.ZoneBlame.{NumberedZone};
+ghost use Rattle.cal_events.specs.Occurrences.{IsLineNamed};
 ghost use Rattle.cal_events.specs.Component.{method_read, times_of, zone_said, local_said};
 ghost use Rattle.cal_events.specs.Zoned.{IsRuleSaid};
 
@@ -33,6 +37,8 @@ use std::alloc::Global;
 pub(crate) struct SaidRule {
     /// None where there is no RRULE.
     text: Option<RuleText>,
+    /// The number of its line; 0 where there is none.
+    line: usize,
 }
 
 impl SaidRule {
@@ -43,14 +49,22 @@ impl SaidRule {
         properties: &Properties<'_>,
         method: Option<Method>,
     ) -> Result<SaidRule, Fault>
-        ensures said { IfOk result (IsRuleSaid properties.now) }
-        ensures fault { (object : Tree) → IfErr result (RefusesBy (EventComponentFault object (method_read method) properties.now)) }
+        ensures said { IfOk result (IsRuleSaid (own_lines properties.now)) }
+        ensures fault { (object : Tree) → IfErr result (RefusesBy (EventComponentFault object (method_read method) (own_lines properties.now))) }
+        ensures line { IfOk result (λ said. is_some said.text ≡ true → IsLineNamed RRULE (numbered_own properties.now) said.line) }
+        ensures at { (zones : List NumberedZone) → IfErr result (RefusesWhere (EventBlame (method_read method) zones (numbered_own properties.now))) }
     {
-        let text = match line_of(properties, Property::Rrule, method)? {
-            Some(line) => Some(RuleText::read(alloc, line.value())?),
-            None => None,
+        let Some(line) = line_of(properties, Property::Rrule, method)? else {
+            return Ok(SaidRule {
+                text: None,
+                line: 0,
+            });
         };
-        Ok(SaidRule { text })
+        let text = line.placed_fault(RuleText::read(alloc, line.value()))?;
+        Ok(SaidRule {
+            text: Some(text),
+            line: line.number(),
+        })
     }
 
     /// The rule of an event with these times, with DTSTART or without. None where RRULE is missing, and where DTSTART is, as it may be in what
@@ -61,10 +75,15 @@ impl SaidRule {
             → IfOk result (SaysEventRule lines (times_of times.now)) }
         ensures fault { (may_lack : Bool) (object : Tree) (lines : List (List ℕ)) → IsRuleSaid lines self → has_start ≡ list_any (is_of (codes "DTSTART")) lines
             → SaysTimes may_lack object lines (times_of times.now) → IfErr result (RefusesBy (EventRuleFault object lines)) }
+        ensures at { IfErr result (RefusesWhere (λ n at. (n ≡ 34) × (is_some self.text ≡ true) × (at ≡ self.line))) }
     {
-        match self.text {
+        let SaidRule { text, line } = self;
+        match text {
             Some(_) if !has_start => Ok(None),
-            Some(text) => Ok(Some(rule_from(text, times.start)?)),
+            Some(text) => match rule_from(text, times.start) {
+                Ok(rule) => Ok(Some(rule)),
+                Err(fault) => Err(fault.at(line)),
+            },
             None => Ok(None),
         }
     }

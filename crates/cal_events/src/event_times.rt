@@ -1,8 +1,11 @@
 //! When an event starts and how long it lasts (RFC 5545 3.6.1): first its three properties as they are said, in UTC,
 //! where TZID names a zone, without zone or as dates, then all of them together.
 
-ghost use Rattle.std.specs.Prelude.{◌≡◌, ◌↔◌, ◌⊎◌, ◌≤◌, ◌^◌, ℕ, Bool, List, Some, codes, pos, ◌+ℤ◌, ◌-ℤ◌, ◌<ℤ◌, ◌≤ℤ◌, IfOk, IfErr, OnOk, IsTrue};
-ghost use Rattle.ical_lines.specs.Text.{line_text};
+ghost use Rattle.std.specs.Prelude.{◌≡◌, ◌↔◌, ◌⊎◌, ◌≤◌, ◌^◌, ℕ, Bool, List, Some, codes, pos, ◌+ℤ◌, ◌-ℤ◌, ◌<ℤ◌, ◌≤ℤ◌, Option, IfOk, IfErr, OnOk, IsTrue};
+ghost use Rattle.ical_lines.specs.Text.{line_text, numbered};
+ghost use Rattle.ical_tree.specs.Own.{own_lines, numbered_own};
+ghost use Rattle.profile.specs.faults.Blame.{Numbered};
+ghost use Rattle.profile.specs.text.Lines.{line_value};
 ghost use Rattle.profile.specs.text.Trees.{Tree};
 ghost use Rattle.profile.specs.text.Values.{IsClockSeconds};
 ghost use Rattle.profile.specs.series.Zones.{IsNearEpoch, Shows, Means};
@@ -10,12 +13,17 @@ ghost use Rattle.profile.specs.events.Starts.{IsCountedFrom, IsDaysLater, EndsAt
 ghost use Rattle.cal_zones.specs.Kinds.{zone_of};
 ghost use Rattle.profile.specs.events.Properties.{WholeDay, length_seconds, OccursAtMostOnce};
 ghost use Rattle.profile.specs.events.ZonedTimes.{is_in_zone, past_locals, IsInDates, SuitsForm, length_alone, ZonedTimeFault, SaysEventTimes, SaysNoStart, SaysTimes, EventTimesFault};
-ghost use Rattle.profile.specs.events.EventComponents.{may_lack_start, EventComponentFault};
+ghost use Rattle.profile.specs.events.EventComponents.{Method as SaidMethod, may_lack_start, EventComponentFault};
+ghost use Rattle.profile.specs.events.EventBlame.{EventBlame};
+ghost use Rattle.profile.specs.series.ZoneBlame.{NumberedZone};
+ghost use Rattle.cal_events.specs.Blame.{TextBlame, zones_of};
+ghost use Rattle.cal_events.specs.Property.{IsLineOf};
+ghost use Rattle.cal_events.specs.declared.property.Property.TheVariants.{Dtstart};
 ghost use Rattle.cal_events.specs.Component.{method_read, times_of, length_of, form_of, form_said, local_said, IsLengthTo, GivesLength, GivesAlone, ExtentFault, AloneFault};
 ghost use Rattle.cal_events.specs.declared.event_times.Extent.TheVariants.{To, For};
 ghost use Rattle.cal_events.specs.Zones.{object_of, AreRead};
 ghost use Rattle.cal_events.specs.Overlapping.{LastAtMost};
-ghost use Rattle.cal_events.specs.Zoned.{ends_in, EndsSo, IsExtentIn, AreSaid, AreSaidAlone, AreSaidBy, IsInYears};
+ghost use Rattle.cal_events.specs.Zoned.{ends_in, AreLinesSaid, IsExtentLine, MayHave, EndsSo, IsExtentIn, AreSaid, AreSaidAlone, AreSaidBy, IsInYears};
 
 use crate::instance::HORIZON;
 use crate::method::Method;
@@ -27,6 +35,7 @@ use cal_zones::Zone;
 use ical_lines::{Line, Refusal};
 use ical_tree::Properties;
 use ical_values::{DAY_SECONDS, Duration, Stamp};
+use std::cmp::max;
 
 /// The longest event, 366 days in seconds; this profile's choice.
 const LONGEST: i64 = 366 * DAY_SECONDS;
@@ -186,9 +195,17 @@ pub(crate) enum SaidTimes {
         /// Whether it is in the dates that an event may name.
         in_dates: bool,
         extent: Extent,
+        lines: TimesLines,
     },
     /// Without DTSTART: an end gives no length.
-    Alone(Extent),
+    Alone(Extent, TimesLines),
+}
+
+/// The numbers of the lines of DTSTART, and of DTEND or DURATION; 0 where there is none.
+#[derive(Clone, Copy)]
+pub(crate) struct TimesLines {
+    start: usize,
+    extent: usize,
 }
 
 impl SaidTimes {
@@ -201,13 +218,20 @@ impl SaidTimes {
         method: Option<Method>,
     ) -> Result<SaidTimes, Refusal>
         requires zones { AreRead zones.now }
-        ensures said { IfOk result (AreSaidBy (may_lack_start (method_read method)) (object_of zones.now) properties.now) }
-        ensures fault { IfErr result (λ e. EventComponentFault (object_of zones.now) (method_read method) properties.now e.number) }
+        ensures said { IfOk result (AreSaidBy (may_lack_start (method_read method)) (object_of zones.now) (own_lines properties.now)) }
+        ensures fault { IfErr result (λ e. EventComponentFault (object_of zones.now) (method_read method) (own_lines properties.now) e.number) }
+        ensures lines { IfOk result (AreLinesSaid (numbered_own properties.now)) }
+        ensures at { IfErr result (λ e. EventBlame (method_read method) (zones_of zones.now) (numbered_own properties.now) e.number e.line) }
     {
-        match line_of(properties, Property::Dtstart, method)? {
-            Some(line) => SaidTimes::from_start(line, zones, properties, method),
-            None => Ok(SaidTimes::Alone(read_extent(zones, properties, method, 0)?)),
+        if let Some(line) = line_of(properties, Property::Dtstart, method)? {
+            return SaidTimes::from_start(line, zones, properties, method);
         }
+        let (extent, line) = read_extent(zones, properties, method, 0)?;
+        let lines = TimesLines {
+            start: 0,
+            extent: line,
+        };
+        Ok(SaidTimes::Alone(extent, lines))
     }
 
     /// What they say with this line of DTSTART.
@@ -218,19 +242,26 @@ impl SaidTimes {
         method: Option<Method>,
     ) -> Result<SaidTimes, Refusal>
         requires zones { AreRead zones.now }
-        requires once { OccursAtMostOnce (codes "DTSTART") properties.now (Some (line_text line)) }
-        ensures said { (may_lack : Bool) → IfOk result (AreSaidBy may_lack (object_of zones.now) properties.now) }
-        ensures fault { IfErr result (λ e. EventComponentFault (object_of zones.now) (method_read method) properties.now e.number) }
+        requires once { OccursAtMostOnce (codes "DTSTART") (own_lines properties.now) (Some (line_text line)) }
+        requires among { IsLineOf Dtstart (numbered_own properties.now) line }
+        ensures said { (may_lack : Bool) → IfOk result (AreSaidBy may_lack (object_of zones.now) (own_lines properties.now)) }
+        ensures fault { IfErr result (λ e. EventComponentFault (object_of zones.now) (method_read method) (own_lines properties.now) e.number) }
+        ensures lines { IfOk result (AreLinesSaid (numbered_own properties.now)) }
+        ensures at { IfErr result (λ e. EventBlame (method_read method) (zones_of zones.now) (numbered_own properties.now) e.number e.line) }
     {
         let start = When::read(line, zones)?;
         let instant = start.instant();
         let in_dates = is_in_dates(&start, false, is_in_zone(line), instant);
-        let extent = read_extent(zones, properties, method, instant)?;
+        let (extent, extent_line) = read_extent(zones, properties, method, instant)?;
         Ok(SaidTimes::From {
             start,
             instant,
             in_dates,
             extent,
+            lines: TimesLines {
+                start: line.number(),
+                extent: extent_line,
+            },
         })
     }
 
@@ -243,6 +274,8 @@ impl SaidTimes {
             → IfOk result (λ times. SaysTimes may_lack object lines (times_of times)) }
         ensures fault { (may_lack : Bool) (object : Tree) (lines : List (List ℕ)) → AreSaidBy may_lack object lines self
             → IfErr result (λ e. EventTimesFault object lines e.number) }
+        ensures at { (method : Option SaidMethod) (zones : List NumberedZone) (event : Numbered) → AreLinesSaid event self
+            → IfErr result (λ e. EventBlame method zones event e.number e.line) }
     {
         match self {
             SaidTimes::From {
@@ -250,8 +283,9 @@ impl SaidTimes {
                 instant,
                 in_dates,
                 extent,
-            } => judge_from(start, instant, in_dates, extent),
-            SaidTimes::Alone(extent) => judge_alone(extent),
+                lines,
+            } => judge_from(start, instant, in_dates, extent, lines),
+            SaidTimes::Alone(extent, lines) => judge_alone(extent, lines),
         }
     }
 }
@@ -281,25 +315,33 @@ fn past_locals(is_end: bool) -> i64
     }
 }
 
-/// What DTEND or DURATION say of an event that starts at an instant.
+/// What DTEND or DURATION say of an event that starts at an instant, and at which line.
 fn read_extent(
     zones: &ZonesOfObject<'_, '_>,
     properties: &Properties<'_>,
     method: Option<Method>,
     start: i64,
-) -> Result<Extent, Refusal>
+) -> Result<(Extent, usize), Refusal>
     requires zones { AreRead zones.now }
     requires start { IsNearEpoch start }
-    ensures reads { IfOk result (IsExtentIn (object_of zones.now) properties.now start) }
-    ensures fault { IfErr result (λ e. EventComponentFault (object_of zones.now) (method_read method) properties.now e.number) }
+    ensures reads { IfOk result (λ read. IsExtentIn (object_of zones.now) (own_lines properties.now) start read.0) }
+    ensures line { IfOk result (λ read. IsExtentLine (numbered_own properties.now) read.0 read.1) }
+    ensures fault { IfErr result (λ e. EventComponentFault (object_of zones.now) (method_read method) (own_lines properties.now) e.number) }
+    ensures at { IfErr result (λ e. EventBlame (method_read method) (zones_of zones.now) (numbered_own properties.now) e.number e.line) }
 {
     let end = line_of(properties, Property::Dtend, method)?;
     let duration = line_of(properties, Property::Duration, method)?;
     match (end, duration) {
-        (Some(_), Some(_)) => Err(Refusal::BAD_PROPERTY),
-        (Some(line), None) => Ok(Extent::To(read_end(line, zones, start)?)),
-        (None, Some(line)) => Ok(Extent::For(Duration::read(line.value())?)),
-        (None, None) => Ok(Extent::Open),
+        (Some(end), Some(duration)) => {
+            let later = max(end.number(), duration.number());
+            Err(Refusal::BAD_PROPERTY.at(later))
+        }
+        (Some(line), None) => Ok((Extent::To(read_end(line, zones, start)?), line.number())),
+        (None, Some(line)) => {
+            let duration = line.placed(Duration::read(line.value()))?;
+            Ok((Extent::For(duration), line.number()))
+        }
+        (None, None) => Ok((Extent::Open, 0)),
     }
 }
 
@@ -309,6 +351,7 @@ fn read_end(line: Line<'_>, zones: &ZonesOfObject<'_, '_>, start: i64) -> Result
     requires start { IsNearEpoch start }
     ensures says { IfOk result (EndsSo (object_of zones.now) (line_text line.entry) start) }
     ensures fault { IfErr result (λ e. ZonedTimeFault (object_of zones.now) (line_text line.entry) e.number) }
+    ensures at { IfErr result (λ e. TextBlame (zones_of zones.now) (numbered line.entry) (line_value (line_text line.entry)) e.number e.line) }
 {
     let when = When::read(line, zones)?;
     let instant = when.instant();
@@ -326,18 +369,26 @@ fn judge_from(
     instant: i64,
     in_dates: bool,
     extent: Extent,
+    lines: TimesLines,
 ) -> Result<EventTimes, Refusal>
     ensures says { (object : Tree) (lines : List (List ℕ)) → AreSaid object lines start instant in_dates extent
         → IfOk result (λ times. SaysEventTimes object lines (times_of times)) }
     ensures fault { (object : Tree) (lines : List (List ℕ)) → AreSaid object lines start instant in_dates extent
         → IfErr result (λ e. EventTimesFault object lines e.number) }
+    ensures at { IfErr result (λ e. ((e.number ≡ 52) × (e.line ≡ lines.start)) ⊎ (MayHave extent e.number × (e.line ≡ lines.extent))) }
 {
-    let length = length_from(start.form(), extent)?;
-    if !in_dates || !extent.ends_in() {
-        return Err(Refusal::OUT_OF_DATES);
+    let length = match length_from(start.form(), extent) {
+        Ok(length) => length,
+        Err(refusal) => return Err(refusal.at(lines.extent)),
+    };
+    if !in_dates {
+        return Err(Refusal::OUT_OF_DATES.at(lines.start));
+    }
+    if !extent.ends_in() {
+        return Err(Refusal::OUT_OF_DATES.at(lines.extent));
     }
     let Some(instant) = Stamp::of_instant(instant) else {
-        return Err(Refusal::OUT_OF_DATES);
+        return Err(Refusal::OUT_OF_DATES.at(lines.start));
     };
     Ok(EventTimes {
         start,
@@ -348,15 +399,19 @@ fn judge_from(
 
 /// The times of an event without DTSTART.
 /// Refused: 51 for a DURATION past 366 days, 52 for a DTEND outside of the dates that an event may name.
-fn judge_alone(extent: Extent) -> Result<EventTimes, Refusal>
+fn judge_alone(extent: Extent, lines: TimesLines) -> Result<EventTimes, Refusal>
     ensures says { (object : Tree) (lines : List (List ℕ)) → AreSaidAlone object lines extent
         → IfOk result (λ times. SaysNoStart object lines (times_of times)) }
     ensures fault { (object : Tree) (lines : List (List ℕ)) → AreSaidAlone object lines extent
         → IfErr result (λ e. EventTimesFault object lines e.number) }
+    ensures at { IfErr result (λ e. MayHave extent e.number × (e.line ≡ lines.extent)) }
 {
-    let length = length_without_start(extent)?;
+    let length = match length_without_start(extent) {
+        Ok(length) => length,
+        Err(refusal) => return Err(refusal.at(lines.extent)),
+    };
     if !extent.ends_in() {
-        return Err(Refusal::OUT_OF_DATES);
+        return Err(Refusal::OUT_OF_DATES.at(lines.extent));
     }
     Ok(EventTimes {
         start: When::epoch(),

@@ -1,10 +1,12 @@
 //! The VEVENTs of one meeting (RFC 5545 3.8.4.4, RFC 5546 3.2): of one UID and one ORGANIZER, and each of another slot of it.
 
-ghost use Rattle.std.specs.Prelude.{◌≡◌, ◌≢◌, ◌<◌, ◌≤◌, ◌||◌, AllPairs, MatchBool, None, Some, length, map, filter, option_map, IfOk, IfErr, OnOk};
+ghost use Rattle.std.specs.Prelude.{◌≡◌, ◌≢◌, ◌<◌, ◌≤◌, ◌||◌, AllPairs, Contains, MatchBool, MatchOption, None, Some, is_none, length, map, filter, option_map, IfOk, IfErr, IfSome, OnOk};
 ghost use Rattle.std.specs.Option.{option_to_list};
 ghost use Rattle.std.specs.List.{list_all};
-ghost use Rattle.ical_lines.specs.Fault.{RefusesOnly, RefusesBy};
-ghost use Rattle.ical_tree.specs.Tree.{tree_of};
+ghost use Rattle.ical_lines.specs.Fault.{RefusesOnly, RefusesBy, RefusesWhere};
+ghost use Rattle.ical_tree.specs.Tree.{events_in, tree_of, zones_in};
+ghost use Rattle.profile.specs.events.EventBlame.{EventsBlame};
+ghost use Rattle.cal_events.specs.Begins.{begins_of, BetweenBlame, IsLater};
 ghost use Rattle.profile.specs.events.Events.{as_added, is_same_meeting, is_master, is_override, taken_by, AreOfOne, InstancesDiffer, TimesDiffer, OverridesApart, SaysEvent, EventFault};
 ghost use Rattle.profile.specs.rooms.Messages.{instants_in};
 ghost use Rattle.cal_events.specs.Component.{component_of, form_of, method_read, time_of, vevents_of};
@@ -48,6 +50,7 @@ impl MeetingComponents {
         ensures instants { IfOk result (λ meeting. map Some meeting.instants.items ≡ instants_said (map component_of meeting.overrides.items)) }
         ensures refuses { IfErr result (RefusesOnly is_components_fault) }
         ensures fault { IfErr result (RefusesBy (EventFault (room_of room.now) (tree_of object.now) None)) }
+        ensures at { IfErr result (RefusesWhere (EventsBlame None (zones_in object.now) (events_in object.now))) }
     {
         let components = read_meeting_in(alloc, object, None, room)?;
         let divided = MeetingComponents::of(alloc, components)?;
@@ -82,7 +85,7 @@ impl MeetingComponents {
 }
 
 /// The VEVENTs of an object, which are of one meeting, in the order of the text, as this METHOD takes them: those of an ADD as the instances
-/// of their own starts. None is an object whose METHOD is ignored. In time n log n.
+/// of their own starts. None is an object whose METHOD is ignored. In time n log n, and where it is refused for 54 log n as often.
 /// Refused: as by `EventComponent::read` for one of them; 66 where there is none; 62 for two UIDs or two ORGANIZERs; 53 for two without
 /// RECURRENCE-ID; 54 for two of the same instance, in a message for two that name it by the same time.
 pub fn read_meeting(
@@ -93,6 +96,8 @@ pub fn read_meeting(
     ensures says { IfOk result (λ events. AreOfObject (tree_of object.now) (method_read method) (vevents_of object.now) (map component_of events.items)) }
     ensures refuses { IfErr result (RefusesOnly is_components_fault) }
     ensures fault { IfErr result (RefusesBy (EventFault None (tree_of object.now) (method_read method))) }
+    ensures at { IfErr result (RefusesWhere (EventsBlame (method_read method) (zones_in object.now) (events_in object.now))) }
+    ensures begun { IfOk result (λ events. begins_of events.items ≡ map (λ event. event.begun) (events_in object.now)) }
 {
     let utc = RoomZone::utc();
     read_meeting_in(alloc, object, method, &utc)
@@ -108,6 +113,8 @@ fn read_meeting_in(
     ensures says { IfOk result (λ events. AreOfObjectIn (room_of room.now) (tree_of object.now) (method_read method) (vevents_of object.now) (map component_of events.items)) }
     ensures refuses { IfErr result (RefusesOnly is_components_fault) }
     ensures fault { IfErr result (RefusesBy (EventFault (room_of room.now) (tree_of object.now) (method_read method))) }
+    ensures at { IfErr result (RefusesWhere (EventsBlame (method_read method) (zones_in object.now) (events_in object.now))) }
+    ensures begun { IfOk result (λ events. begins_of events.items ≡ map (λ event. event.begun) (events_in object.now)) }
 {
     let components = read_events(alloc, object, method, room)?;
     judge_meeting(&components)?;
@@ -122,7 +129,8 @@ fn taken_for(
     method: Option<Method>,
     components: Vec<EventComponent>,
 ) -> Result<Vec<EventComponent>, AllocError>
-    ensures { IfOk result (λ taken. map component_of taken.items ≡ taken_by (method_read method) (map component_of components.items)) }
+    ensures are { IfOk result (λ taken. map component_of taken.items ≡ taken_by (method_read method) (map component_of components.items)) }
+    ensures begun { IfOk result (λ taken. begins_of taken.items ≡ begins_of components.items) }
 {
     match method {
         Some(Method::Add) => all_added(alloc, components),
@@ -135,7 +143,8 @@ fn all_added(
     alloc: Global,
     components: Vec<EventComponent>,
 ) -> Result<Vec<EventComponent>, AllocError>
-    ensures { IfOk result (λ added. map component_of added.items ≡ map as_added (map component_of components.items)) }
+    ensures are { IfOk result (λ added. map component_of added.items ≡ map as_added (map component_of components.items)) }
+    ensures begun { IfOk result (λ added. begins_of added.items ≡ begins_of components.items) }
 {
     let mut added = Vec::new(alloc);
     for component in components {
@@ -148,7 +157,8 @@ fn all_added(
 
 /// Takes a component as an ADD does: as the instance of its own start, whatever RECURRENCE-ID says (RFC 5546 3.2.4).
 fn add(component: &mut EventComponent)
-    ensures { component_of component.new ≡ as_added (component_of component.old) }
+    ensures added { component_of component.new ≡ as_added (component_of component.old) }
+    ensures begun { component.new.begun ≡ component.old.begun }
 {
     let times = component.times;
     let instant = times.instant.instant();
@@ -165,20 +175,28 @@ fn judge_meeting(components: &[EventComponent]) -> Result<(), Refusal>
     ensures some { OnOk result (0 < length (map component_of components.now)) }
     ensures one { OnOk result (AreOfOne (map component_of components.now)) }
     ensures fault { IfErr result (λ e. IsNotOne (map component_of components.now) e.number) }
+    ensures at { IfErr result (λ e. BetweenBlame (begins_of components.now) e.number e.line) }
 {
     let Some((first, others)) = components.split_first() else {
         return Err(Refusal::NO_EVENT);
     };
-    if !are_one_meeting(first, others) {
-        return Err(Refusal::TWO_MEETINGS);
+    match of_another_meeting(first, others) {
+        Some(line) => Err(Refusal::TWO_MEETINGS.at(line)),
+        None => Ok(()),
     }
-    Ok(())
 }
 
-fn are_one_meeting(first: &EventComponent, others: &[EventComponent]) -> bool
-    ensures { result ≡ list_all (λ other. is_same_meeting (component_of first.now) (component_of other)) others.now }
+/// The number of the BEGIN of the first of the others that isn't of the same meeting, None where all are.
+fn of_another_meeting(first: &EventComponent, others: &[EventComponent]) -> Option<usize>
+    ensures none { is_none result ≡ list_all (λ other. is_same_meeting (component_of first.now) (component_of other)) others.now }
+    ensures at { IfSome result (Contains (begins_of others.now)) }
 {
-    others.iter().all(|other| is_same_meeting(first, other))
+    for other in others {
+        if !is_same_meeting(first, other) {
+            return Some(other.begun);
+        }
+    }
+    None
 }
 
 /// Whether both are of one UID and one ORGANIZER.
@@ -188,7 +206,8 @@ fn is_same_meeting(a: &EventComponent, b: &EventComponent) -> bool
     a.uid.as_str() == b.uid.as_str() && a.organiser_text() == b.organiser_text()
 }
 
-/// Refuses components of which two are of one slot of their meeting, as this METHOD takes them. In time n log n.
+/// Refuses components of which two are of one slot of their meeting, as this METHOD takes them. In time n log n, and where two are of the same
+/// instance, log n as often.
 /// Refused: 53 for two without RECURRENCE-ID, 54 for two of the same instance.
 fn judge_slots(
     alloc: Global,
@@ -199,28 +218,59 @@ fn judge_slots(
     ensures masters { OnOk result (length (filter is_master (map component_of components.now)) ≤ 1) }
     ensures differ { OnOk result (OverridesApart (method_read method) (filter is_override (map component_of components.now))) }
     ensures fault { IfErr result (RefusesBy (SharesSlot (method_read method) (map component_of components.now))) }
+    ensures at { IfErr result (RefusesWhere (BetweenBlame (begins_of components.now))) }
 {
-    if count_masters(components) > 1 {
-        return Err(Fault::Refused(Refusal::TWO_MASTERS));
+    if let Some(line) = second_master(components) {
+        return Err(Fault::Refused(Refusal::TWO_MASTERS.at(line)));
     }
     if share_slot(alloc, components, method)? {
-        return Err(Fault::Refused(Refusal::TWO_OVERRIDES));
+        let line = shared_again(alloc, components, method)?;
+        return Err(Fault::Refused(Refusal::TWO_OVERRIDES.at(line)));
     }
     Ok(())
 }
 
-/// How many lack RECURRENCE-ID.
-fn count_masters(components: &[EventComponent]) -> usize
-    ensures { result ≡ length (filter is_master (map component_of components.now)) }
+/// The number of the BEGIN of the second that lacks RECURRENCE-ID, None where one lacks it at most.
+fn second_master(components: &[EventComponent]) -> Option<usize>
+    ensures one { MatchOption result (length (filter is_master (map component_of components.now)) ≤ 1)
+        (λ _. 1 < length (filter is_master (map component_of components.now))) }
+    ensures at { IfSome result (IsLater (begins_of components.now)) }
 {
     let mut masters: usize = 0;
     for component in components {
-        match component.recurrence {
-            Some(_) => {}
-            None => masters += 1,
+        if component.recurrence.is_none() {
+            if masters == 1 {
+                return Some(component.begun);
+            }
+            masters += 1;
         }
     }
-    masters
+    None
+}
+
+/// The number of the BEGIN of the first that is for the same instance as one before it, where two are for the same.
+/// It fails only when out of memory.
+fn shared_again(
+    alloc: Global,
+    components: &[EventComponent],
+    method: Option<Method>,
+) -> Result<usize, AllocError>
+    requires named { NameInstances (map component_of components.now) }
+    requires shared { OverridesApart (method_read method) (filter is_override (map component_of components.now)) → ⊥ }
+    ensures { IfOk result (IsLater (begins_of components.now)) }
+{
+    // No two of the first so many are, and two of the first so many.
+    let mut apart: usize = 1;
+    let mut shared = components.len();
+    while apart + 1 < shared {
+        let middle = apart + (shared - apart) / 2;
+        if share_slot(alloc, &components[..middle], method)? {
+            shared = middle;
+        } else {
+            apart = middle;
+        }
+    }
+    Ok(components[shared - 1].begun)
 }
 
 /// Whether two are for the same instance: where METHOD is ignored by the instants, in a message by the times as they are written. It fails only

@@ -1,20 +1,23 @@
 //! Which instance of a meeting a VEVENT is for (RECURRENCE-ID, RFC 5545 3.8.4.4), and which starts it adds to those of its
 //! rule and which it takes away (RDATE 3.8.5.2, EXDATE 3.8.5.1): first as they are said, then judged together with the rest.
 
-ghost use Rattle.std.specs.Prelude.{◌≡◌, ◌⊎◌, ◌<◌, ◌∷◌, ◌++◌, ◌==◌, ◌||◌, [], List, ℕ, Bool, codes, map, option_map, true, false, IfOk, IfErr, OnOk, OnErr};
+ghost use Rattle.std.specs.Prelude.{◌≡◌, ◌⊎◌, ◌<◌, ◌∷◌, ◌++◌, ◌==◌, ◌||◌, [], List, ℕ, Bool, codes, map, option_map, is_some, true, false, Contains, Option, Some, IfOk, IfErr, IfSome, OnOk, OnErr};
 ghost use Rattle.std.specs.List.{AllZip, list_any};
-ghost use Rattle.ical_lines.specs.Fault.{RefusesBy};
-ghost use Rattle.ical_lines.specs.Text.{line_text};
+ghost use Rattle.ical_lines.specs.Fault.{RefusesBy, RefusesWhere};
+ghost use Rattle.ical_lines.specs.Text.{line_text, numbered};
+ghost use Rattle.ical_tree.specs.Own.{own_lines, numbered_own};
 ghost use Rattle.profile.specs.text.Trees.{Tree};
 ghost use Rattle.profile.specs.events.Properties.{is_fixed, is_of, Says};
 ghost use Rattle.profile.specs.events.ZonedTimes.{ZonedTextFault};
 ghost use Rattle.profile.specs.events.Occurrences.{ListedTime, IsRecurrenceLine, is_period, entries_of, entries_named, Lists, IsInside, EntriesFault, OccurrenceFault, IsFixedWhere, recurs_as_instance};
-ghost use Rattle.profile.specs.events.EventComponents.{instants_of, property_name, EventComponentFault};
+ghost use Rattle.profile.specs.events.EventComponents.{Method as SaidMethod, RECURRENCE-ID, instants_of, property_name, EventComponentFault};
+ghost use Rattle.profile.specs.events.EventBlame.{EventBlame, texts_of};
+ghost use Rattle.cal_events.specs.Blame.{TextBlame, zones_of};
 ghost use Rattle.cal_events.specs.Times.{form_of, none_written, time_of, written_of};
 ghost use Rattle.cal_events.specs.Component.{method_read};
 ghost use Rattle.cal_events.specs.Property.{property_said};
 ghost use Rattle.cal_events.specs.Zones.{object_of, AreRead};
-ghost use Rattle.cal_events.specs.Occurrences.{name_of, time_said, SaysSo, IsRecurrenceSaid, AreListed};
+ghost use Rattle.cal_events.specs.Occurrences.{name_of, time_said, SaysSo, IsAtSaid, IsLineNamed, IsListLine, IsRecurringLine, IsRecurrenceSaid, AreListed, ListedBlame};
 
 use crate::event_times::is_in_dates;
 use crate::method::Method;
@@ -103,6 +106,8 @@ impl WrittenTimes {
 /// A time as it is said.
 #[derive(Clone, Copy)]
 pub(crate) struct SaidInstant {
+    /// The number of its line.
+    line: usize,
     time: Time,
     /// Whether it is in the dates that an event may name.
     in_dates: bool,
@@ -119,6 +124,8 @@ impl SaidInstant {
         requires zones { AreRead zones.now }
         ensures says { IfOk result (SaysSo (object_of zones.now) (line_text line.entry) text.now) }
         ensures fault { IfErr result (λ e. ZonedTextFault (object_of zones.now) (line_text line.entry) text.now e.number) }
+        ensures line { IfOk result (λ said. said.line ≡ line.entry.number) }
+        ensures at { IfErr result (λ e. TextBlame (zones_of zones.now) (numbered line.entry) text.now e.number e.line) }
     {
         let when = When::read_text(line, text, zones)?;
         let time = Time {
@@ -126,6 +133,7 @@ impl SaidInstant {
             instant: when.instant(),
         };
         Ok(SaidInstant {
+            line: line.number(),
             time,
             in_dates: is_in_dates(&when, false, is_in_zone(line), time.instant),
         })
@@ -139,14 +147,16 @@ impl SaidInstant {
         method: Option<Method>,
     ) -> Result<Option<SaidInstant>, Refusal>
         requires zones { AreRead zones.now }
-        ensures said { IfOk result (IsRecurrenceSaid (object_of zones.now) properties.now) }
-        ensures fault { IfErr result (λ e. EventComponentFault (object_of zones.now) (method_read method) properties.now e.number) }
+        ensures said { IfOk result (IsRecurrenceSaid (object_of zones.now) (own_lines properties.now)) }
+        ensures fault { IfErr result (λ e. EventComponentFault (object_of zones.now) (method_read method) (own_lines properties.now) e.number) }
+        ensures among { IfOk result (λ found. IfSome found (λ said. IsLineNamed RECURRENCE-ID (numbered_own properties.now) said.line)) }
+        ensures at { IfErr result (λ e. EventBlame (method_read method) (zones_of zones.now) (numbered_own properties.now) e.number e.line) }
     {
         let Some(line) = line_of(properties, Property::RecurrenceId, method)? else {
             return Ok(None);
         };
         if line.param("RANGE").is_some() {
-            return Err(Refusal::RANGE);
+            return Err(Refusal::RANGE.at(line.number()));
         }
         Ok(Some(SaidInstant::read(line, line.value(), zones)?))
     }
@@ -164,9 +174,10 @@ pub(crate) fn refuse_unfixed(said: Option<SaidInstant>, fixed: bool) -> Result<(
     ensures is { OnOk result (IsFixedWhere fixed (time_said said)) }
     ensures fault { (object : Tree) (lines : List (List ℕ)) → IsRecurrenceSaid object lines said
         → (added : Bool) → IfErr result (λ e. OccurrenceFault added fixed object lines e.number) }
+    ensures at { IfErr result (λ e. (e.number ≡ 57) × IsAtSaid said e.line) }
 {
     match said {
-        Some(said) if fixed && !said.is_fixed() => Err(Refusal::OTHER_FORM),
+        Some(said) if fixed && !said.is_fixed() => Err(Refusal::OTHER_FORM.at(said.line)),
         _ => Ok(()),
     }
 }
@@ -179,9 +190,10 @@ pub(crate) fn judge_recurrence(said: Option<SaidInstant>) -> Result<Option<Time>
         → IfOk result (λ time. Says (codes "RECURRENCE-ID") false (IsRecurrenceLine object) lines (option_map time_of time)) }
     ensures fault { (object : Tree) (lines : List (List ℕ)) → IsRecurrenceSaid object lines said
         → (added fixed : Bool) → IfErr result (λ e. OccurrenceFault added fixed object lines e.number) }
+    ensures at { IfErr result (λ e. (e.number ≡ 52) × IsAtSaid said e.line) }
 {
     match said {
-        Some(said) if !said.in_dates => Err(Refusal::OUT_OF_DATES),
+        Some(said) if !said.in_dates => Err(Refusal::OUT_OF_DATES.at(said.line)),
         Some(said) => Ok(Some(said.time)),
         None => Ok(None),
     }
@@ -193,25 +205,31 @@ pub(crate) fn refuse_recurring_instance(
     properties: &Properties<'_>,
     barred: bool,
 ) -> Result<(), Refusal>
-    ensures alone { OnOk result (recurs_as_instance barred properties.now ≡ false) }
-    ensures recurs { OnErr result (recurs_as_instance barred properties.now ≡ true) }
+    ensures alone { OnOk result (recurs_as_instance barred (own_lines properties.now) ≡ false) }
+    ensures recurs { OnErr result (recurs_as_instance barred (own_lines properties.now) ≡ true) }
     ensures number { IfErr result (λ e. e.number ≡ 67) }
+    ensures at { IfErr result (λ e. IsRecurringLine (numbered_own properties.now) e.line) }
 {
-    if (barred || has(properties, Property::RecurrenceId)) && recurs(properties) {
-        return Err(Refusal::RECURRING_INSTANCE);
+    if !barred && !has(properties, Property::RecurrenceId) {
+        return Ok(());
     }
-    Ok(())
+    match first_recurring(properties) {
+        Some(line) => Err(Refusal::RECURRING_INSTANCE.at(line.number())),
+        None => Ok(()),
+    }
 }
 
-fn recurs(properties: &Properties<'_>) -> bool
-    ensures { result ≡ list_any (λ line. is_of (codes "RRULE") line || is_of (codes "RDATE") line) properties.now }
+/// The first line of RRULE or RDATE.
+fn first_recurring<'a>(properties: &Properties<'a>) -> Option<Line<'a>>
+    ensures found { is_some result ≡ list_any (λ line. is_of (codes "RRULE") line || is_of (codes "RDATE") line) (own_lines properties.now) }
+    ensures at { IfSome result (λ line. IsRecurringLine (numbered_own properties.now) line.number) }
 {
     for line in properties.lines() {
         if Property::Rrule.names(*line) || Property::Rdate.names(*line) {
-            return true;
+            return Some(*line);
         }
     }
-    false
+    None
 }
 
 /// The times that a property lists, as they are said.
@@ -219,8 +237,8 @@ fn recurs(properties: &Properties<'_>) -> bool
 pub(crate) struct SaidInstants {
     /// In the order of the text. At most 366.
     pub(crate) times: Vec<Time>,
-    /// Whether all are in the dates that an event may name.
-    in_dates: bool,
+    /// The number of the line of the first one that isn't in the dates that an event may name; None where all are.
+    outside: Option<usize>,
 }
 
 impl SaidInstants {
@@ -233,12 +251,14 @@ impl SaidInstants {
         listing: Listing,
     ) -> Result<SaidInstants, Fault>
         requires zones { AreRead zones.now }
-        ensures listed { IfOk result (AreListed (object_of zones.now) (name_of listing) (entries_named (name_of listing) properties.now)) }
-        ensures fault { IfErr result (RefusesBy (EntriesFault (object_of zones.now) (name_of listing) (entries_named (name_of listing) properties.now))) }
+        ensures listed { IfOk result (AreListed (object_of zones.now) (name_of listing) (entries_named (name_of listing) (own_lines properties.now))) }
+        ensures fault { IfErr result (RefusesBy (EntriesFault (object_of zones.now) (name_of listing) (entries_named (name_of listing) (own_lines properties.now)))) }
+        ensures among { IfOk result (λ said. IfSome said.outside (λ at. IsListLine listing (numbered_own properties.now) at)) }
+        ensures at { (method : Option SaidMethod) → IfErr result (RefusesWhere (EventBlame method (zones_of zones.now) (numbered_own properties.now))) }
     {
         let mut said = SaidInstants {
             times: Vec::new(alloc),
-            in_dates: true,
+            outside: None,
         };
         let property = listing.property();
         for line in properties.lines() {
@@ -261,6 +281,9 @@ impl SaidInstants {
             → OnOk result (AreListed (object_of zones.now) (name_of listing) (done ++ entries_of (line_text line.entry)) self.new) }
         ensures fault { (done : List ListedTime) → AreListed (object_of zones.now) (name_of listing) done self.old
             → IfErr result (RefusesBy (EntriesFault (object_of zones.now) (name_of listing) (done ++ entries_of (line_text line.entry)))) }
+        ensures outside { OnOk result ((self.new.outside ≡ self.old.outside) ⊎ (self.new.outside ≡ Some line.entry.number)) }
+        ensures at { IfErr result (RefusesWhere (λ n at. (text : List ℕ) × Contains (texts_of (line_text line.entry)) text
+            × ListedBlame (zones_of zones.now) (name_of listing) (numbered line.entry) text n at)) }
     {
         for text in line.value().split(',') {
             self.add(line, text, zones, listing)?;
@@ -281,14 +304,16 @@ impl SaidInstants {
             → OnOk result (AreListed (object_of zones.now) (name_of listing) (done ++ (line_text line.entry, text.now) ∷ []) self.new) }
         ensures fault { (done : List ListedTime) → AreListed (object_of zones.now) (name_of listing) done self.old
             → IfErr result (RefusesBy (EntriesFault (object_of zones.now) (name_of listing) (done ++ (line_text line.entry, text.now) ∷ []))) }
+        ensures outside { OnOk result ((self.new.outside ≡ self.old.outside) ⊎ (self.new.outside ≡ Some line.entry.number)) }
+        ensures at { IfErr result (RefusesWhere (ListedBlame (zones_of zones.now) (name_of listing) (numbered line.entry) text.now)) }
     {
         if self.times.len() == MOST || listing.is_period(text) {
-            return Err(Fault::Refused(Refusal::LIST_OR_PERIOD));
+            return Err(Fault::Refused(Refusal::LIST_OR_PERIOD.at(line.number())));
         }
         let said = SaidInstant::read(line, text, zones)?;
         self.times.push(said.time)?;
-        if !said.in_dates {
-            self.in_dates = false;
+        if !said.in_dates && self.outside.is_none() {
+            self.outside = Some(said.line);
         }
         Ok(())
     }
@@ -301,11 +326,12 @@ impl SaidInstants {
             × AllZip (IsInside object) (entries_named (codes "RDATE") lines) (map time_of v.items)) }
         ensures fault { (object : Tree) (lines : List (List ℕ)) → AreListed object (codes "RDATE") (entries_named (codes "RDATE") lines) self
             → (added fixed : Bool) → IfErr result (λ e. OccurrenceFault added fixed object lines e.number) }
+        ensures at { IfErr result (λ e. (e.number ≡ 52) × (self.outside ≡ Some e.line)) }
     {
-        if !self.in_dates {
-            return Err(Refusal::OUT_OF_DATES);
+        match self.outside {
+            Some(line) => Err(Refusal::OUT_OF_DATES.at(line)),
+            None => Ok(self.times),
         }
-        Ok(self.times)
     }
 }
 

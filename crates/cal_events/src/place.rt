@@ -33,7 +33,7 @@ impl EventComponent {
     /// An event that was read as it is in a room of this zone. It fails only when out of memory.
     pub(crate) fn placed(self, alloc: Global, room: &RoomZone) -> Result<EventComponent, AllocError>
         requires { ∥ IsWritten (component_of self) ∥₁ }
-        ensures { IfOk result (λ placed. IsPlaced (room_of room.now) (component_of self) (component_of placed)) }
+        ensures { IfOk result (λ placed. IsPlaced (room_of room.now) (component_of self) (component_of placed) × (placed.begun ≡ self.begun)) }
     {
         // Only for the proof: the words of the room mean it.
         room.words_mean();
@@ -44,6 +44,7 @@ impl EventComponent {
             exceptions,
         } = self.times_in(alloc, room)?;
         let EventComponent {
+            begun,
             uid,
             organiser,
             stamp,
@@ -56,6 +57,7 @@ impl EventComponent {
             ..
         } = self;
         Ok(EventComponent {
+            begun,
             uid,
             organiser,
             stamp,
@@ -107,6 +109,7 @@ impl EventComponent {
         let rule = self.rule.clone()?;
         let summary = Text::of(alloc, "")?;
         Ok(EventComponent {
+            begun: self.begun,
             uid,
             organiser,
             stamp: self.stamp,

@@ -1,7 +1,8 @@
 //! A calendar read from its octets (RFC 5545 3.4), for one room: open limits, METHOD ignored.
+ghost use Rattle.ical_tree.specs.Own.{own_lines, own_numbered};
 ghost use Rattle.std.specs.Prelude.{ℕ, List, ◌≡◌, ◌⊎◌, [], map, Contains, IfOk, IfErr};
 ghost use Rattle.std.specs.List.{AllZip};
-ghost use Rattle.ical_lines.specs.Fault.{RefusesOnly, RefusesBy};
+ghost use Rattle.ical_lines.specs.Fault.{RefusesOnly, RefusesBy, RefusesAt, RefusesWhere};
 ghost use Rattle.ical_values.specs.Octets.{address_octets};
 ghost use Rattle.profile.specs.faults.Faults.{is_calendar_fault, is_meeting_event_fault};
 ghost use Rattle.profile.specs.checker.Instances.{Instance};
@@ -12,7 +13,10 @@ ghost use Rattle.profile.specs.series.RoomZones.{NamesRoomZone, RoomZoneFault};
 ghost use Rattle.profile.specs.events.Spans.{AreSaidSeries};
 ghost use Rattle.profile.specs.events.Confirmed.{Confirmed, IsConfirmed, IsInSeries, AreConfirmed};
 ghost use Rattle.profile.specs.text.Trees.{Tree};
-ghost use Rattle.ical_tree.specs.Tree.{component_lines, tree_of};
+ghost use Rattle.ical_tree.specs.Tree.{component_begun, component_lines, events_in, numbered_of, tree_of, zones_in};
+ghost use Rattle.profile.specs.events.EventBlame.{EventBlame, EventsBlame};
+ghost use Rattle.cal_events.specs.Begins.{begins_of};
+ghost use Rattle.cal_events.specs.Blame.{zones_of, CalendarBlame, IsZoneLine};
 ghost use Rattle.cal_zones.specs.RoomZones.{room_of};
 ghost use Rattle.cal_events.specs.Zones.{object_of, AreRead};
 ghost use Rattle.cal_events.specs.Component.{IsFaultAmong, method_read, component_of, vevents_of};
@@ -66,6 +70,7 @@ impl Calendar {
         ensures says { IfOk result (SaysCalendar (address_octets room.now) (tree_of object.now)) }
         ensures refuses { IfErr result (RefusesOnly is_calendar_fault) }
         ensures fault { IfErr result (RefusesBy (CalendarFault (tree_of object.now))) }
+        ensures at { IfErr result (RefusesWhere (CalendarBlame object.now)) }
     {
         let own = Properties::of(alloc, object)?;
         let draft = Draft::of_object(alloc, object, &own, room)?;
@@ -143,6 +148,8 @@ pub(crate) fn read_event(
     ensures says { IfOk result (λ event. SaysEventComponent (object_of zones.now) (method_read method) (component_lines component.now) (component_of event)) }
     ensures refuses { IfErr result (RefusesOnly is_meeting_event_fault) }
     ensures fault { IfErr result (RefusesBy (EventComponentFault (object_of zones.now) (method_read method) (component_lines component.now))) }
+    ensures at { IfErr result (RefusesWhere (EventBlame (method_read method) (zones_of zones.now) (numbered_of component.now))) }
+    ensures begun { IfOk result (λ event. event.begun ≡ component_begun component.now) }
 {
     let properties = Properties::of(alloc, component)?;
     EventComponent::read(alloc, zones, &properties, method)
@@ -160,6 +167,8 @@ pub(crate) fn read_placed(
     ensures says { IfOk result (λ event. SaysPlaced (room_of room.now) (object_of zones.now) (method_read method) (component_lines component.now) (component_of event)) }
     ensures refuses { IfErr result (RefusesOnly is_meeting_event_fault) }
     ensures fault { IfErr result (RefusesBy (EventComponentFault (object_of zones.now) (method_read method) (component_lines component.now))) }
+    ensures at { IfErr result (RefusesWhere (EventBlame (method_read method) (zones_of zones.now) (numbered_of component.now))) }
+    ensures begun { IfOk result (λ event. event.begun ≡ component_begun component.now) }
 {
     let event = read_event(alloc, zones, component, method)?;
     Ok(event.placed(alloc, room)?)
@@ -176,6 +185,8 @@ pub(crate) fn read_events(
     ensures says { IfOk result (λ events. AllZip (SaysPlaced (room_of room.now) (tree_of object.now) (method_read method)) (vevents_of object.now) (map component_of events.items)) }
     ensures refuses { IfErr result (RefusesOnly is_meeting_event_fault) }
     ensures fault { IfErr result (RefusesBy (IsFaultAmong (tree_of object.now) (method_read method) (vevents_of object.now))) }
+    ensures at { IfErr result (RefusesWhere (EventsBlame (method_read method) (zones_in object.now) (events_in object.now))) }
+    ensures begun { IfOk result (λ events. begins_of events.items ≡ map (λ event. event.begun) (events_in object.now)) }
 {
     let zones = ZonesOfObject::of(alloc, object)?;
     let mut events = Vec::new(alloc);
@@ -190,11 +201,12 @@ pub(crate) fn read_events(
 /// The zone of the room of a calendar, which its own lines name by X-ROOM-ZONE; UTC where that is missing.
 /// Refused: 44 where it occurs twice, or its words mean no zone.
 pub(crate) fn read_room_zone(alloc: Global, properties: &Properties<'_>) -> Result<RoomZone, Fault>
-    ensures names { IfOk result (λ room. NamesRoomZone properties.now (room_of room)) }
-    ensures fault { IfErr result (RefusesBy (λ n. (n ≡ 44) × RoomZoneFault properties.now)) }
+    ensures names { IfOk result (λ room. NamesRoomZone (own_lines properties.now) (room_of room)) }
+    ensures fault { IfErr result (RefusesBy (λ n. (n ≡ 44) × RoomZoneFault (own_lines properties.now))) }
+    ensures at { IfErr result (RefusesAt (IsZoneLine (own_numbered properties.now))) }
 {
     match properties.optional("X-ROOM-ZONE", Refusal::ROOM_ZONE)? {
-        Some(line) => RoomZone::read(alloc, line.value()),
+        Some(line) => line.placed_fault(RoomZone::read(alloc, line.value())),
         None => Ok(RoomZone::utc()),
     }
 }

@@ -1,7 +1,10 @@
 //! When a start or an end is: in UTC, by the clocks of a zone, where TZID names a VTIMEZONE of the object that the line is in, without zone, or a
 //! whole day (RFC 5545 3.2.19, 3.2.20, 3.3.4, 3.3.5, 3.6.5, 3.8.3.1). What is wrong with a VTIMEZONE that no line names refuses nothing.
-ghost use Rattle.std.specs.Prelude.{◌≡◌, ℕ, List, Option, None, Some, ℤ, pos, IsTrue, option_map, IfOk, IfErr, IfSome, IfNone, OnOk};
-ghost use Rattle.ical_lines.specs.Text.{line_text};
+ghost use Rattle.std.specs.Prelude.{◌≡◌, ◌⊎◌, ℕ, List, Option, None, Some, ℤ, pos, IsTrue, option_map, IfOk, IfErr, IfSome, IfNone, OnOk};
+ghost use Rattle.ical_lines.specs.Text.{line_text, numbered};
+ghost use Rattle.profile.specs.events.EventBlame.{NamedBlame};
+ghost use Rattle.profile.specs.text.Lines.{line_value};
+ghost use Rattle.cal_events.specs.Blame.{TextBlame, zones_of};
 ghost use Rattle.profile.specs.text.Trees.{Tree};
 ghost use Rattle.profile.specs.text.Values.{SpellsLocal};
 ghost use Rattle.profile.specs.series.Zones as zones;
@@ -74,6 +77,7 @@ impl When {
         requires zones { AreRead zones.now }
         ensures says { IfOk result (λ t. SaysZonedTime (object_of zones.now) (line_text line.entry) (form_said t) (zone_said t) (local_said t)) }
         ensures fault { IfErr result (λ e. ZonedTimeFault (object_of zones.now) (line_text line.entry) e.number) }
+        ensures at { IfErr result (λ e. TextBlame (zones_of zones.now) (numbered line.entry) (line_value (line_text line.entry)) e.number e.line) }
     {
         When::read_text(line, line.value(), zones)
     }
@@ -87,10 +91,11 @@ impl When {
         requires zones { AreRead zones.now }
         ensures says { IfOk result (λ t. SaysZonedText (object_of zones.now) (line_text line.entry) text.now (form_said t) (zone_said t) (local_said t)) }
         ensures fault { IfErr result (λ e. ZonedTextFault (object_of zones.now) (line_text line.entry) text.now e.number) }
+        ensures at { IfErr result (λ e. TextBlame (zones_of zones.now) (numbered line.entry) text.now e.number e.line) }
     {
         match line.param("TZID") {
             Some(name) => read_in_zone(line, text, name, zones),
-            None => read_alone(line, text),
+            None => line.placed(read_alone(line, text)),
         }
     }
 
@@ -217,9 +222,11 @@ fn read_in_zone(
     ensures allowed { IfOk result (λ t. IsTrue (allows_form (time_kind (line_text line.entry)) (form_said t))) }
     ensures says { IfOk result (λ t. SpellsForm (object_of zones.now) (Some name.now) text.now (form_said t) (zone_said t) (local_said t)) }
     ensures fault { IfErr result (λ e. InZoneFault (object_of zones.now) name.now (time_kind (line_text line.entry)) text.now e.number) }
+    ensures at { IfErr result (λ e. ((e.line ≡ line.entry.number) × LocalFault (time_kind (line_text line.entry)) text.now e.number)
+        ⊎ NamedBlame (zones_of zones.now) line.entry.number name.now e.number e.line) }
 {
-    let local = read_local(line, text)?;
-    let zone = zones.named(name)?;
+    let local = line.placed(read_local(line, text))?;
+    let zone = zones.named(name, line.number())?;
     Ok(When::Zoned(local, zone))
 }
 

@@ -1,5 +1,7 @@
 //! The zone of its room is named in a calendar that names none: a line X-ROOM-ZONE is put after that of its BEGIN, and all other octets stay as
 //! they are.
+ghost use Rattle.ical_tree.specs.Own.{own_lines, own_numbered};
+ghost use Rattle.cal_events.specs.Blame.{IsZoneLine};
 ghost use Rattle.std.specs.Prelude.{ℕ, List, Option, [], ◌≡◌, ◌≤◌, ◌++◌, codes, length, take, drop, IfOk, IfErr};
 ghost use Rattle.ical_lines.specs.Fault.{RefusesOnly, RefusesBy};
 ghost use Rattle.ical_lines.specs.FirstLine.{EndsFirstLine};
@@ -56,14 +58,14 @@ fn zone_place(alloc: Global, bytes: &[u8]) -> Result<usize, Fault>
 
 /// Refused with 44 where an own line of a calendar names the zone of its room.
 fn judge_unnamed(properties: &Properties<'_>) -> Result<(), Refusal>
-    ensures unnamed { IfOk result (λ _. lines_named (codes "X-ROOM-ZONE") properties.now ≡ []) }
-    ensures fault { IfErr result (λ e. (e.number ≡ 44) × HasZoneLine properties.now) }
+    ensures unnamed { IfOk result (λ _. lines_named (codes "X-ROOM-ZONE") (own_lines properties.now) ≡ []) }
+    ensures fault { IfErr result (λ e. (e.number ≡ 44) × HasZoneLine (own_lines properties.now)) }
+    ensures at { IfErr result (λ e. IsZoneLine (own_numbered properties.now) e.line) }
 {
-    let given = properties.optional("X-ROOM-ZONE", Refusal::ROOM_ZONE)?;
-    if given.is_some() {
-        return Err(Refusal::ROOM_ZONE);
+    match properties.optional("X-ROOM-ZONE", Refusal::ROOM_ZONE)? {
+        Some(line) => Err(Refusal::ROOM_ZONE.at(line.number())),
+        None => Ok(()),
     }
-    Ok(())
 }
 
 /// The octets with the line of these words after so many of them.

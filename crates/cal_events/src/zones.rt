@@ -5,6 +5,8 @@ ghost use Rattle.std.specs.Prelude.{◌≡◌, ◌∷◌, ◌++◌, [], List, If
 ghost use Rattle.ical_tree.specs.declared.component.Component.{Component};
 ghost use Rattle.profile.specs.events.ZonedTimes.{zone_named, SaysZoneOf, NamedFault};
 ghost use Rattle.cal_zones.specs.Kinds.{zone_of};
+ghost use Rattle.profile.specs.events.EventBlame.{NamedBlame};
+ghost use Rattle.cal_events.specs.Blame.{zones_of};
 ghost use Rattle.cal_events.specs.Zones.{AreZonesAmong, IsZoneRead, object_of, AreRead};
 
 use cal_zones::{Zone, zone_name};
@@ -41,15 +43,16 @@ impl<'c, 'a> ZonesOfObject<'c, 'a> {
     }
 
     /// The zone that a name means: what the first VTIMEZONE of that name says. Names are compared octet by octet.
-    /// Refused: 43 where no VTIMEZONE has it; 11, 13 and 40 to 42 as by `Zone::read`.
-    pub(crate) fn named(&self, name: &str) -> Result<Zone, Refusal>
+    /// Refused: 43 where no VTIMEZONE has it, at the line of this number, which names it; 11, 13 and 40 to 42 as by `Zone::read`.
+    pub(crate) fn named(&self, name: &str, line: usize) -> Result<Zone, Refusal>
         requires { AreRead self.now }
         ensures says { IfOk result (λ zone. SaysZoneOf (zone_named name.now (object_of self.now)) (zone_of zone)) }
         ensures fault { IfErr result (λ e. NamedFault (zone_named name.now (object_of self.now)) e.number) }
+        ensures at { IfErr result (λ e. NamedBlame (zones_of self.now) line name.now e.number e.line) }
     {
         match self.by_name.get(name) {
             Some(zone) => *zone,
-            None => Err(Refusal::NO_ZONE),
+            None => Err(Refusal::NO_ZONE.at(line)),
         }
     }
 }

@@ -1,5 +1,5 @@
 -- Numbers, weekdays and dates as they are spelled.
-use Rattle.std.proofs.Common.{◌≡◌, ◌∙◌, ◌≢◌, ap, sym, refl, ℕ, zero, suc, ◌+◌, ◌-◌, ◌*◌, ◌^◌, ◌<◌, ◌≤◌, lit<, lit≤, true, false, cond, nat_eq, inl, inr, ◌⊎◌, List, [], ◌∷◌, ◌++◌, length, get_or, take, drop, codes, Option, None, Some, is_some, unwrap_or, subst, IfSome, MatchOption, ℤ, pos, neg_ℤ, arith, Result, Ok, Err}
+use Rattle.std.proofs.Common.{◌≡◌, ◌∙◌, ◌≢◌, ap, sym, refl, ℕ, zero, suc, ◌+◌, ◌-◌, ◌*◌, ◌<◌, ◌≤◌, lit<, lit≤, true, false, cond, nat_eq, inl, inr, ◌⊎◌, List, [], ◌∷◌, ◌++◌, length, get_or, take, drop, codes, Option, None, Some, is_some, unwrap_or, subst, IfSome, MatchOption, ℤ, pos, neg_ℤ, arith, Result, Ok, Err}
 use Rattle.std.proofs.lemmas.List.{take-append-drop, take_at, drop_at, get_or_at, length-append}
 use Rattle.std.proofs.lemmas.Str.{IsCharBoundary-before_ascii}
 use Rattle.std.proofs.lemmas.Str.Parse.{without_leading_plus_none, digit_from_value}

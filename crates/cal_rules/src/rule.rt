@@ -60,15 +60,17 @@ impl Rule {
     ghost use Rattle.cal_rules.specs.LastDays.{NoDayTo, IsLastDayTo};
     ghost use Rattle.cal_rules.specs.Counted.{NoneIn, IsFirstIn};
     ghost use Rattle.cal_rules.specs.Cursors.{IsCursorOf};
-    ghost use Rattle.ical_lines.specs.declared.fault.Fault.TheVariants.{Refused};
+    ghost use Rattle.ical_lines.specs.Fault.{RefusesBy};
+    ghost use Rattle.ical_lines.specs.declared.fault.Fault.TheVariants.{Memory};
 
     /// The rule of that text, from the day of DTSTART to `last`, the last day that UNTIL allows. Refused
     /// where the start isn't a day of the rule (34).
     pub fn new(text: RuleText, start: Day, last: Day) -> Result<Rule, Fault>
         ensures made { IfOk result (λ rule. rule ≡ rule_of text (day_index start) (day_index last)) }
         ensures starts { IfOk result (λ _. is_rule_day (rule_of text (day_index start) (day_index last)) (day_index start) ≡ true) }
-        ensures refuses { IfErr result (λ e. (e ≡ Refused (record { number = 34 }))
-            × (is_rule_day (rule_of text (day_index start) (day_index last)) (day_index start) ≡ false)) }
+        ensures refuses { IfErr result (RefusesBy (λ n. (n ≡ 34)
+            × (is_rule_day (rule_of text (day_index start) (day_index last)) (day_index start) ≡ false))) }
+        ensures takes_none { IfErr result (λ e. e ≡ Memory → ⊥) }
     {
         let rule = Rule::from_day(text, start, last);
         if !rule.holds(start) {

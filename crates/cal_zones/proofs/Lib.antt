@@ -12,6 +12,7 @@ pub mod Named
 pub mod Seven
 pub mod PartLemmas
 pub mod Reading
+pub mod Blamed
 pub mod OneZone
 pub mod YearLemmas
 pub mod WrittenRules

@@ -3,7 +3,7 @@ use Rattle.std.proofs.Common.{◌≡◌, ◌∙◌, ap, sym, refl, subst, ℕ, z
 use denote.Ref.{Bor}
 use Rattle.std.specs.Prelude.{Option, Some, None, IfSome, IfNone, option_map, Contains, find}
 use Rattle.std.proofs.lemmas.Bool.{true≢false, or_left, or_right}
-use Rattle.std.proofs.lemmas.List.{map-append, take-append-drop, drop_all}
+use Rattle.std.proofs.lemmas.List.{map-append, length-map, get_or-map, take-append-drop, drop_all}
 use Rattle.std.proofs.lemmas.List.Elements.{Contains-append_right, filter-append}
 use Rattle.std.proofs.lemmas.Option.{same_Some}
 use Rattle.ical_tree.specs.Tree.{component_name, component_lines, component_children, tree_of}
@@ -24,7 +24,7 @@ first_of : {A : Type 0} (b : Bool) (y x : A) (f : Option A) (zs : List A) → co
 first_of true y x f zs h k = (zs, ap (λ v. v ∷ zs) (same_Some y x h))
 first_of false y x f zs h k = k h
 
-find_first : {A : Type 0} (p : A → Bool) (xs : List A) (x : A) → find p xs ≡ Some x → (rest : List A) × (filter p xs ≡ x ∷ rest)
+pub find_first : {A : Type 0} (p : A → Bool) (xs : List A) (x : A) → find p xs ≡ Some x → (rest : List A) × (filter p xs ≡ x ∷ rest)
 find_first p [] x h = cc
 find_first p (y ∷ ys) x h = first_of (p y) y x (find p ys) (filter p ys) h (find_first p ys x)
 
@@ -32,7 +32,7 @@ none_of : {A : Type 0} (b : Bool) (y : A) (f : Option A) (zs : List A) → cond 
 none_of true y f zs h k = cc
 none_of false y f zs h k = k h
 
-find_none : {A : Type 0} (p : A → Bool) (xs : List A) → find p xs ≡ None → filter p xs ≡ []
+pub find_none : {A : Type 0} (p : A → Bool) (xs : List A) → find p xs ≡ None → filter p xs ≡ []
 find_none p [] h = refl
 find_none p (y ∷ ys) h = none_of (p y) y (find p ys) (filter p ys) h (find_none p ys)
 
@@ -61,6 +61,26 @@ found_in test cs None e = tt
 pub nothing_in : (test : List ℕ → Bool) (cs : List Component) (r : Option (Bor Component)) → IsFound test cs r → IfNone r (parts_in test cs ≡ [])
 nothing_in test cs (Some b) e = tt
 nothing_in test cs None e = none_in test cs (sym e)
+
+-- it is one of them
+found_step : {A : Type 0} (b : Bool) (y x : A) (f : Option A) (ys : List A) → cond b (Some y) f ≡ Some x → (f ≡ Some x → Contains ys x) → Contains (y ∷ ys) x
+found_step true y x f ys h k = (zero, omega arith, same_Some y x h)
+found_step false y x f ys h k = let w = k h in (suc w.0, omega (arith, w.1), w.2)
+
+pub find_among : {A : Type 0} (p : A → Bool) (xs : List A) (x : A) → find p xs ≡ Some x → Contains xs x
+find_among p [] x h = cc
+find_among p (y ∷ ys) x h = found_step (p y) y x (find p ys) ys h (find_among p ys x)
+
+pub mapped : {A B : Type 0} (f : A → B) (xs : List A) (x : A) → Contains xs x → Contains (map f xs) (f x)
+mapped f xs x there = (there.0, omega (arith, length-map xs f, there.1), get_or-map f xs there.0 x (f x) there.1 ∙ ap f there.2)
+
+mapped_step : {A B : Type 0} (f : A → B) (x : A) (ys : List B) (zs : List A) (b : Bool) → ys ≡ map f zs → cond b (f x ∷ ys) ys ≡ map f (cond b (x ∷ zs) zs)
+mapped_step f x ys zs true e = ap (λ l. f x ∷ l) e
+mapped_step f x ys zs false e = e
+
+pub filter_mapped : {A B : Type 0} (f : A → B) (p : B → Bool) (xs : List A) → filter p (map f xs) ≡ map f (filter (λ x. p (f x)) xs)
+filter_mapped f p [] = refl
+filter_mapped f p (x ∷ xs) = mapped_step f x _ _ (p (f x)) (filter_mapped f p xs)
 
 -- ---- those up to a place
 
@@ -99,9 +119,9 @@ abbrev pub seen : Option (Bor Component) → List Lines
 seen None = []
 seen (Some part) = component_lines part.now ∷ []
 
--- what was found, and what is left, are all that pass
+-- what was found, and what is left, are all that pass; what was found is one of them
 abbrev pub FoundSofar : (List ℕ → Bool) → List Component → ℕ → Option (Bor Component) → Type 0
-FoundSofar test cs i only = parts_in test cs ≡ seen only ++ parts_in test (drop i cs)
+FoundSofar test cs i only = (parts_in test cs ≡ seen only ++ parts_in test (drop i cs)) × IfSome only (λ part. Contains cs part.now)
 
 -- what holds of all that are left, and of the one before them
 pub one_more : (P : Lines → Type 0) (part : Lines) (rest : List Lines) → P part → ((other : Lines) → Contains rest other → P other) → (other : Lines) → Contains (part ∷ rest) other → P other

@@ -21,7 +21,7 @@ pub use clock::Clock;
 pub use law::zones_repeat;
 pub use observance::Observance;
 pub use one_day::day_named;
-pub use parts::{has_line, read_local, read_offset};
+pub use parts::{read_local, read_offset};
 pub use read::one_zone;
 pub use room_zone::RoomZone;
 pub use write::zone_reads_back;

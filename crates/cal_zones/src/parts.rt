@@ -1,13 +1,15 @@
 //! The parts of a VTIMEZONE, the components named STANDARD or DAYLIGHT directly inside, and their lines DTSTART,
 //! TZOFFSETFROM and TZOFFSETTO (RFC 5545 3.6.5).
 
-ghost use Rattle.std.specs.Prelude.{◌≡◌, ◌∷◌, [], length, find, option_map, IfSome, IfNone, true, false, None, Some, IfOk, IfErr};
+ghost use Rattle.std.specs.Prelude.{◌≡◌, ℕ, List, ◌∷◌, [], length, find, option_map, Contains, IfSome, IfNone, true, None, Some, IfOk, IfErr, OnOk};
+ghost use Rattle.ical_tree.specs.Own.{own_lines, numbered_own};
 ghost use Rattle.ical_tree.specs.Tree.{component_name, component_lines, component_children};
 ghost use Rattle.profile.specs.text.Lines.{is_same_name};
+ghost use Rattle.profile.specs.series.ZoneBlame.{is_offset, PartBlame};
 ghost use Rattle.profile.specs.series.ZoneTexts.{is_part, IsFixedLine, IsLocalLine, IsOffsetLine, SaysPartTimes, TimesFault};
 ghost use Rattle.cal_zones.specs.Read.{parts_in, zone_parts, StartFault, OffsetFault};
 ghost use Rattle.ical_lines.specs.Text.{line_text};
-ghost use Rattle.profile.specs.events.Properties.{Says, IsMissing, is_date_time};
+ghost use Rattle.profile.specs.events.Properties.{Says, IsMissing, is_of, is_date_time};
 ghost use Rattle.cal_zones.specs.Onsets.{observance_of};
 
 use crate::observance::Observance;
@@ -33,6 +35,7 @@ pub(crate) fn first_part<'c, 'a>(zone: &'c Component<'a>) -> Option<&'c Componen
 /// The one part, where there is exactly one.
 pub(crate) fn only_part<'c, 'a>(zone: &'c Component<'a>) -> Option<&'c Component<'a>>
     ensures found { IfSome result (λ part. zone_parts zone.now ≡ component_lines part.now ∷ []) }
+    ensures among { IfSome result (λ part. Contains (component_children zone.now) part.now) }
     ensures none { IfNone result (length (zone_parts zone.now) ≡ 1 → ⊥) }
 {
     let mut only = None;
@@ -51,6 +54,7 @@ pub(crate) fn only_part<'c, 'a>(zone: &'c Component<'a>) -> Option<&'c Component
 pub(crate) fn only_named<'c, 'a>(zone: &'c Component<'a>, name: &str) -> Option<&'c Component<'a>>
     ensures found { IfSome result (λ part.
         parts_in (λ n. is_same_name n name.now) (component_children zone.now) ≡ component_lines part.now ∷ []) }
+    ensures among { IfSome result (λ part. Contains (component_children zone.now) part.now) }
     ensures none { IfNone result
         (length (parts_in (λ n. is_same_name n name.now) (component_children zone.now)) ≡ 1 → ⊥) }
 {
@@ -66,16 +70,23 @@ pub(crate) fn only_named<'c, 'a>(zone: &'c Component<'a>, name: &str) -> Option<
     found
 }
 
-/// Is there such a property? Names are compared caseless.
-pub fn has_line(properties: &Properties<'_>, name: &str) -> bool
-    ensures missing { result ≡ false → IsMissing name.now properties.now }
-    ensures present { result ≡ true → IsMissing name.now properties.now → ⊥ }
+/// Refused with 40 where there is such a property, at its first line. Names are compared caseless.
+pub(crate) fn check_missing(properties: &Properties<'_>, name: &str) -> Result<(), Refusal>
+    ensures missing { OnOk result (IsMissing name.now (own_lines properties.now)) }
+    ensures fault { IfErr result (λ e. (e.number ≡ 40) × (IsMissing name.now (own_lines properties.now) → ⊥)) }
+    ensures at { IfErr result (λ e. PartBlame (numbered_own properties.now) e.number e.line) }
 {
-    match properties.optional(name, Refusal::ZONE_SHAPE) {
-        Ok(line) => line.is_some(),
-        // It occurs twice.
-        Err(_) => true,
+    match first_named(properties, name) {
+        Some(line) => Err(Refusal::ZONE_SHAPE.at(line.number())),
+        None => Ok(()),
     }
+}
+
+/// The first line of that name.
+fn first_named<'p, 'a>(properties: &'p Properties<'a>, name: &str) -> Option<&'p Line<'a>>
+    ensures { option_map (λ line. line.now) result ≡ find (λ line. is_of name.now (line_text line)) properties.now.lines.items }
+{
+    properties.lines().iter().find(|line| line.is_named(name))
 }
 
 /// Is its value a date-time? It is where VALUE isn't written.
@@ -93,39 +104,41 @@ pub fn read_local(line: Line<'_>) -> Result<LocalTime, Refusal>
     ensures says { IfOk result (IsLocalLine (line_text line.entry)) }
     ensures fault { IfErr result (λ e. StartFault (line_text line.entry) e.number) }
     ensures fixed { IfErr result (λ e. IsFixedLine (line_text line.entry) → e.number ≡ 40) }
+    ensures at { IfErr result (λ e. e.line ≡ line.entry.number) }
 {
     if line.param("TZID").is_some() {
-        return Err(Refusal::ZONE_SHAPE);
+        return Err(Refusal::ZONE_SHAPE.at(line.number()));
     }
     if ends_in_z(line.value()) {
-        return Err(Refusal::ZONE_SHAPE);
+        return Err(Refusal::ZONE_SHAPE.at(line.number()));
     }
     if !is_date_time(line) {
-        return Err(Refusal::BAD_DATE_TIME);
+        return Err(Refusal::BAD_DATE_TIME.at(line.number()));
     }
-    LocalTime::read(line.value())
+    line.placed(LocalTime::read(line.value()))
 }
 
 /// The offset of that name. Refused with 40 where it is missing or occurs twice, with 13 where it isn't one.
 pub fn read_offset(properties: &Properties<'_>, name: &str) -> Result<UtcOffset, Refusal>
-    ensures says { IfOk result (λ t. Says name.now true IsOffsetLine properties.now (Some t)) }
-    ensures fault { IfErr result (λ e. OffsetFault name.now properties.now e.number) }
+    ensures says { IfOk result (λ t. Says name.now true IsOffsetLine (own_lines properties.now) (Some t)) }
+    ensures fault { IfErr result (λ e. OffsetFault name.now (own_lines properties.now) e.number) }
+    ensures at { ((line : List ℕ) → is_of name.now line ≡ true → is_offset line ≡ true)
+        → IfErr result (λ e. PartBlame (numbered_own properties.now) e.number e.line) }
 {
     let line = properties.required(name, Refusal::ZONE_SHAPE)?;
-    UtcOffset::read(line.value())
+    line.placed(UtcOffset::read(line.value()))
 }
 
 /// The times of a part, as an observance without a rule. Refused with 40 where there is an RDATE, where one of
 /// the three is missing or occurs twice, or DTSTART isn't a local time without a zone; with 11 or 13 where a
 /// value isn't one.
 pub(crate) fn read_times(properties: &Properties<'_>) -> Result<Observance, Refusal>
-    ensures says { IfOk result (λ o. SaysPartTimes properties.now (observance_of o)) }
+    ensures says { IfOk result (λ o. SaysPartTimes (own_lines properties.now) (observance_of o)) }
     ensures no_rule { IfOk result (λ o. o.rule ≡ None) }
-    ensures fault { IfErr result (λ e. TimesFault properties.now e.number) }
+    ensures fault { IfErr result (λ e. TimesFault (own_lines properties.now) e.number) }
+    ensures at { IfErr result (λ e. PartBlame (numbered_own properties.now) e.number e.line) }
 {
-    if has_line(properties, "RDATE") {
-        return Err(Refusal::ZONE_SHAPE);
-    }
+    check_missing(properties, "RDATE")?;
     let line = properties.required("DTSTART", Refusal::ZONE_SHAPE)?;
     let start = read_local(line)?;
     let from = read_offset(properties, "TZOFFSETFROM")?;

@@ -2,9 +2,10 @@
 //! one STANDARD and one DAYLIGHT that each name one day of the year.
 
 ghost use Rattle.std.specs.Prelude.{◌≡◌, ℕ, List, true, false, length, Contains, None, Some, IfOk, IfErr};
-ghost use Rattle.ical_lines.specs.Fault.{RefusesBy};
-ghost use Rattle.ical_tree.specs.Tree.{component_lines};
+ghost use Rattle.ical_lines.specs.Fault.{RefusesBy, RefusesWhere};
+ghost use Rattle.ical_tree.specs.Tree.{component_lines, numbered_of, zone_of_component};
 ghost use Rattle.profile.specs.text.Trees.{Tree};
+ghost use Rattle.profile.specs.series.ZoneBlame.{PartBlame, ZoneBlame};
 ghost use Rattle.profile.specs.series.ZoneTexts.{SaysZone, ZoneFault, SaysYearly, SpellsYear, SpellsNoYear, OffsetsDiffer, KeepsOffset, Strays, SaysPartTimes, TimesFault};
 ghost use Rattle.cal_zones.specs.Shapes.{rule_named};
 ghost use Rattle.cal_zones.specs.Onsets.{observance_of};
@@ -15,7 +16,7 @@ ghost use Rattle.profile.specs.events.Properties as lines;
 
 use crate::observance::Observance;
 use crate::one_day::day_of_year;
-use crate::parts::{first_part, has_line, is_part, only_named, only_part, read_times};
+use crate::parts::{check_missing, first_part, is_part, only_named, only_part, read_times};
 use crate::yearly::Yearly;
 use crate::zone::Zone;
 use cal_rules::{RuleText, one_rule};
@@ -40,9 +41,10 @@ pub fn one_zone()
 pub(crate) fn read_zone(alloc: Global, zone: &Component) -> Result<Zone, Fault>
     ensures says { IfOk result (λ z. SaysComponentZone zone.now (zone_of z)) }
     ensures fault { IfErr result (RefusesBy (HasZoneFault zone.now)) }
+    ensures at { IfErr result (RefusesWhere (ZoneBlame (zone_of_component zone.now))) }
 {
     let Some(part) = first_part(zone) else {
-        return Err(Fault::Refused(Refusal::ZONE_SHAPE));
+        return Err(Fault::Refused(Refusal::ZONE_SHAPE.at(zone.begun())));
     };
     let first = times_of(alloc, part)?;
     if all_keep(alloc, zone, first.offset_from)? {
@@ -55,6 +57,7 @@ pub(crate) fn read_zone(alloc: Global, zone: &Component) -> Result<Zone, Fault>
 fn times_of(alloc: Global, part: &Component) -> Result<Observance, Fault>
     ensures says { IfOk result (λ o. SaysPartTimes (component_lines part.now) (observance_of o)) }
     ensures fault { IfErr result (RefusesBy (TimesFault (component_lines part.now))) }
+    ensures at { IfErr result (RefusesWhere (PartBlame (numbered_of part.now))) }
 {
     let properties = Properties::of(alloc, part)?;
     Ok(read_times(&properties)?)
@@ -65,6 +68,7 @@ fn keeps(alloc: Global, part: &Component, offset: i32) -> Result<bool, Fault>
     ensures yes { IfOk result (λ b. b ≡ true → KeepsOffset offset (component_lines part.now)) }
     ensures no { IfOk result (λ b. b ≡ false → Strays offset (component_lines part.now)) }
     ensures fault { IfErr result (RefusesBy (TimesFault (component_lines part.now))) }
+    ensures at { IfErr result (RefusesWhere (PartBlame (numbered_of part.now))) }
 {
     let times = times_of(alloc, part)?;
     Ok(times.offset_from == offset && times.offset_to == offset)
@@ -77,6 +81,7 @@ fn all_keep(alloc: Global, zone: &Component, offset: i32) -> Result<bool, Fault>
     ensures no { IfOk result (λ b. b ≡ false
         → (part : List (List ℕ)) × Contains (zone_parts zone.now) part × Strays offset part) }
     ensures fault { IfErr result (RefusesBy (SomeTimesFault (zone_parts zone.now))) }
+    ensures at { IfErr result (RefusesWhere (ZoneBlame (zone_of_component zone.now))) }
 {
     for child in zone.children() {
         if is_part(child) {
@@ -93,6 +98,7 @@ fn read_changing(alloc: Global, zone: &Component) -> Result<Zone, Fault>
     requires { OffsetsDiffer (zone_parts zone.now) }
     ensures says { IfOk result (λ z. SaysComponentZone zone.now (zone_of z)) }
     ensures fault { IfErr result (RefusesBy (HasZoneFault zone.now)) }
+    ensures at { IfErr result (RefusesWhere (ZoneBlame (zone_of_component zone.now))) }
 {
     match only_part(zone) {
         Some(part) => read_single(alloc, part),
@@ -105,13 +111,15 @@ fn read_changing(alloc: Global, zone: &Component) -> Result<Zone, Fault>
 fn read_single(alloc: Global, part: &Component) -> Result<Zone, Fault>
     ensures says { IfOk result (λ z. SaysSingle (component_lines part.now) (zone_of z)) }
     ensures fault { IfErr result (RefusesBy (SingleFault (component_lines part.now))) }
+    ensures at { IfErr result (RefusesWhere (PartBlame (numbered_of part.now))) }
 {
     let properties = Properties::of(alloc, part)?;
     let observance = read_times(&properties)?;
-    if has_line(&properties, "RRULE") {
-        return Err(Fault::Refused(Refusal::ZONE_SHAPE));
+    check_missing(&properties, "RRULE")?;
+    match Zone::single(observance) {
+        Ok(zone) => Ok(zone),
+        Err(refusal) => Err(Fault::Refused(refusal.at(part.begun()))),
     }
-    Ok(Zone::single(observance)?)
 }
 
 /// The zone of one STANDARD and one DAYLIGHT.
@@ -120,16 +128,24 @@ fn read_pair(alloc: Global, zone: &Component) -> Result<Zone, Fault>
     requires several { length (zone_parts zone.now) ≡ 1 → ⊥ }
     ensures says { IfOk result (λ z. SaysComponentZone zone.now (zone_of z)) }
     ensures fault { IfErr result (RefusesBy (HasZoneFault zone.now)) }
+    ensures at { IfErr result (RefusesWhere (ZoneBlame (zone_of_component zone.now))) }
 {
     let Some(standard) = only_named(zone, "STANDARD") else {
-        return Err(Fault::Refused(Refusal::ZONE_SHAPE));
+        return Err(Fault::Refused(Refusal::ZONE_SHAPE.at(zone.begun())));
     };
     let Some(daylight) = only_named(zone, "DAYLIGHT") else {
-        return Err(Fault::Refused(Refusal::ZONE_SHAPE));
+        return Err(Fault::Refused(Refusal::ZONE_SHAPE.at(zone.begun())));
     };
     let first = read_yearly(alloc, standard)?;
     let second = read_yearly(alloc, daylight)?;
-    Ok(Zone::pair(first, second)?)
+    match Zone::pair(first, second) {
+        Ok(zone) => Ok(zone),
+        Err(refusal) => {
+            // they contradict each other: the later one is where that is seen
+            let later = standard.begun().max(daylight.begun());
+            Err(Fault::Refused(refusal.at(later)))
+        }
+    }
 }
 
 /// A part that begins on one day every year. Refused where its times are wrong, and with 40 where RRULE is missing, occurs twice
@@ -138,11 +154,12 @@ fn read_yearly(alloc: Global, part: &Component) -> Result<Observance, Fault>
     ensures says { IfOk result (λ o. SaysYearly (component_lines part.now) (observance_of o)) }
     ensures has_rule { IfOk result (λ o. o.rule ≡ None → ⊥) }
     ensures fault { IfErr result (RefusesBy (YearlyFault (component_lines part.now))) }
+    ensures at { IfErr result (RefusesWhere (PartBlame (numbered_of part.now))) }
 {
     let properties = Properties::of(alloc, part)?;
     let mut observance = read_times(&properties)?;
     let line = properties.required("RRULE", Refusal::ZONE_SHAPE)?;
-    let rule = read_year(alloc, line.value())?;
+    let rule = line.placed_fault(read_year(alloc, line.value()))?;
     observance.rule = Some(rule);
     Ok(observance)
 }

@@ -54,14 +54,15 @@ impl Zone {
     ghost use Rattle.profile.specs.series.Days.{day_index};
     ghost use Rattle.profile.specs.series.Zones.{Constant, Single, IsZoneOnset, IsOffsetAt, Means, AreFirstOnsets, IsBounds, IsOneOffset, IsOneMeaning, IsNearEpoch, IsLastDay, NoneFrom};
     ghost use Rattle.profile.specs.series.Residues.{IsOffsetOf};
+    ghost use Rattle.profile.specs.series.ZoneBlame.{ZoneBlame};
     ghost use Rattle.profile.specs.series.ZoneTexts.{AreMatched, AreSpaced, IsSingleFault, IsPairFault, SaysZone, ZoneFault};
     ghost use Rattle.cal_zones.specs.Onsets.{observance_of};
     ghost use Rattle.cal_zones.specs.Kinds.{zone_of, pair_of, AreEnds};
     ghost use Rattle.cal_zones.specs.Spans.{AreNoneBetween, IsNextOr};
     ghost use Rattle.cal_zones.specs.Repeats.{IsRegularFrom, IsLeastZonePeriod};
     ghost use Rattle.profile.specs.events.Spans.{IsPastOnsets};
-    ghost use Rattle.ical_lines.specs.Fault.{RefusesBy};
-    ghost use Rattle.ical_tree.specs.Tree.{tree_of};
+    ghost use Rattle.ical_lines.specs.Fault.{RefusesBy, RefusesWhere};
+    ghost use Rattle.ical_tree.specs.Tree.{tree_of, zone_of_component};
     ghost use Rattle.profile.specs.written.WrittenZones.{IsZoneText};
     ghost use Rattle.ical_values.specs.Written.{Appends};
     ghost use Rattle.std.specs.Option.{is_none};
@@ -137,10 +138,12 @@ impl Zone {
     /// Refused: 40 for a shape that isn't supported, such as no part, RDATE, a DTSTART, TZOFFSETFROM or TZOFFSETTO that
     /// is missing, occurs twice or isn't local, or other rules; 11 and 13 for a DTSTART and an offset that are
     /// not valid; 41 for offsets that don't match or are over 12 hours apart; 42 for onsets less than two days
-    /// apart.
+    /// apart. The refusal is at the line that is wrong, at the second of two; of what a part lacks at the BEGIN of the part; of two parts that
+    /// don't go together at the BEGIN of the later; of other parts than those accepted at the BEGIN of the VTIMEZONE.
     pub fn read(alloc: Global, zone: &Component) -> Result<Zone, Fault>
         ensures says { IfOk result (λ z. SaysZone (tree_of zone.now) (zone_of z)) }
         ensures fault { IfErr result (RefusesBy (ZoneFault (tree_of zone.now))) }
+        ensures at { IfErr result (RefusesWhere (ZoneBlame (zone_of_component zone.now))) }
     {
         read_zone(alloc, zone)
     }

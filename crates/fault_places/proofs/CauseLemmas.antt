@@ -18,18 +18,18 @@ use Rattle.fault_places.specs.declared.obstacle.PartCause.{PartCause}
 use Rattle.fault_places.proofs.ObstacleLemmas.{AreRight, daylight_of, differ, no_parts, one_named, only_daylight, only_standard, some_daylight, some_standard, standard_of}
 
 -- a part of this name has it
-caused : (zone part : Component) (n : ℕ) (found : PartCause) (obstacle : Obstacle) (line : Option (List ℕ)) → found.name.now ≡ component_name part → found.cause.obstacle ≡ obstacle
+caused : (zone part : Component) (n : ℕ) (found : PartCause) (obstacle : Obstacle) (line : Option (List ℕ)) → found.component.now ≡ part → found.cause.obstacle ≡ obstacle
     → text_of found.cause.line ≡ line → IsPartCause zone part obstacle line n → IsCause zone n found
 caused zone part n found obstacle line name o l is =
     inr (part, name, subst (λ (b : Obstacle). IsPartCause zone part b (text_of found.cause.line) n) (sym o) (subst (λ (t : Option (List ℕ)). IsPartCause zone part obstacle t n) (sym l) is))
 
 -- the times of a part
-pub times_there : (zone part : Component) (found : PartCause) → found.name.now ≡ component_name part → Contains (component_children zone) part → Contains (zone_parts zone) (component_lines part)
+pub times_there : (zone part : Component) (found : PartCause) → found.component.now ≡ part → Contains (component_children zone) part → Contains (zone_parts zone) (component_lines part)
     → IsTimesCause (component_lines part) found.cause.obstacle (text_of found.cause.line) → IsCause zone 40 found
 times_there zone part found name there among is = inr (part, name, times found.cause.obstacle (text_of found.cause.line) there among is)
 
 pub times_at : (zone : Component) (children : List Component) (i : ℕ) (part : Component) (found : PartCause) (cause : Cause) → children ≡ component_children zone → i < length children
-    → part ≡ get_or children i part → is_part (component_name part) ≡ true → found.name.now ≡ component_name part → found.cause ≡ cause
+    → part ≡ get_or children i part → is_part (component_name part) ≡ true → found.component.now ≡ part → found.cause ≡ cause
     → IsTimesCause (component_lines part) cause.obstacle (text_of cause.line) → IsCause zone 40 found
 times_at zone children i part found cause e within here is name same has =
     times_there zone part found name (subst (λ (l : List Component). Contains l part) e (i, within, sym here))
@@ -38,12 +38,12 @@ times_at zone children i part found cause e within here is name same has =
 
 -- a second STANDARD, or a second DAYLIGHT
 pub second_standard : (zone part : Component) (found : PartCause) → HasZoneFault zone 40 → AreRight (zone_parts zone) → IsNthPart zone (codes "STANDARD") 1 part
-    → found.name.now ≡ component_name part → found.cause.obstacle ≡ Second → text_of found.cause.line ≡ None → IsCause zone 40 found
+    → found.component.now ≡ part → found.cause.obstacle ≡ Second → text_of found.cause.line ≡ None → IsCause zone 40 found
 second_standard zone part found fault right is name o l =
     caused zone part 40 found Second None name o l (second (differ zone fault right (some_standard zone part 1 is)) (inl is))
 
 pub second_daylight : (zone part : Component) (found : PartCause) → HasZoneFault zone 40 → AreRight (zone_parts zone) → IsNthPart zone (codes "DAYLIGHT") 1 part
-    → found.name.now ≡ component_name part → found.cause.obstacle ≡ Second → text_of found.cause.line ≡ None → IsCause zone 40 found
+    → found.component.now ≡ part → found.cause.obstacle ≡ Second → text_of found.cause.line ≡ None → IsCause zone 40 found
 second_daylight zone part found fault right is name o l =
     caused zone part 40 found Second None name o l (second (differ zone fault right (some_daylight zone part 1 is)) (inr is))
 
@@ -108,11 +108,11 @@ is_unmatched part others line other from_text to_text r s from to a b l o f t re
   differ = λ same. differ (e ∙ same ∙ sym g);
 }
 
-pub has_far : (part : Component) (found : PartCause) (cause : Cause) (line : List ℕ) → found.name.now ≡ component_name part → found.cause ≡ cause → cause.obstacle ≡ FarApart
+pub has_far : (part : Component) (found : PartCause) (cause : Cause) (line : List ℕ) → found.component.now ≡ part → found.cause ≡ cause → cause.obstacle ≡ FarApart
     → text_of cause.line ≡ Some line → IsFar (component_lines part) line → HasFar part found
 has_far part found cause line name same o l is = (line, name, ap (λ (k : Cause). k.obstacle) same ∙ o, ap (λ (k : Cause). text_of k.line) same ∙ l, is)
 
-pub has_unmatched : (part other : Component) (found : PartCause) (cause : Cause) (line : List ℕ) → found.name.now ≡ component_name part → found.cause ≡ cause → cause.obstacle ≡ Unmatched
+pub has_unmatched : (part other : Component) (found : PartCause) (cause : Cause) (line : List ℕ) → found.component.now ≡ part → found.cause ≡ cause → cause.obstacle ≡ Unmatched
     → text_of cause.line ≡ Some line → IsUnmatched (component_lines part) (component_lines other) line → HasUnmatched part other found
 has_unmatched part other found cause line name same o l is = (line, name, ap (λ (k : Cause). k.obstacle) same ∙ o, ap (λ (k : Cause). text_of k.line) same ∙ l, is)
 
@@ -122,6 +122,6 @@ far_there zone part found is (line, name, o, l, has) = caused zone part 41 found
 pub unmatched_there : (zone part other : Component) (found : PartCause) → AreBoth zone part other → HasUnmatched part other found → IsCause zone 41 found
 unmatched_there zone part other found both (line, name, o, l, has) = caused zone part 41 found Unmatched (Some line) name o l (unmatched line other both has)
 
-pub close_there : (zone part : Component) (found : PartCause) → IsNthPart zone (codes "DAYLIGHT") 0 part → found.name.now ≡ component_name part → found.cause.obstacle ≡ Close
+pub close_there : (zone part : Component) (found : PartCause) → IsNthPart zone (codes "DAYLIGHT") 0 part → found.component.now ≡ part → found.cause.obstacle ≡ Close
     → text_of found.cause.line ≡ None → IsCause zone 42 found
 close_there zone part found is name o l = caused zone part 42 found Close None name o l (close is)

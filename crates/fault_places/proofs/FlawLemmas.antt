@@ -219,7 +219,7 @@ no_tree one pairs fine octets text n m same has object reads is method named lin
     no_object octets (λ _. ⊥) (has_version_only one octets object is) (has_few_events one octets object is)
     (λ k h. not_both (text_has true k octets) h (fine true octets k reads))
     (λ k h. pairs true object (logical_lines octets) k is h)
-    (Refused (record { number = m })) (inr (subst (TreeHas true m) same has))
+    (Refused (record { number = m; line = 0 })) (inr (subst (TreeHas true m) same has))
 
 -- an object whose VEVENTs have none has none
 pub no_flaw : OneTree → (octets : List ℕ) (text : List (List ℕ)) (whole : Component) (n : ℕ) → text ≡ logical_lines octets → IsObjectOf true whole text

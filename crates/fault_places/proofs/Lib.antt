@@ -1,7 +1,5 @@
-pub mod BlameLemmas
 pub mod CauseLemmas
 pub mod FlawLemmas
 pub mod ObstacleLemmas
 pub mod PlaceLemmas
 pub mod RefusedLemmas
-pub mod TallyLemmas

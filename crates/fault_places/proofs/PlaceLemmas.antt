@@ -1,19 +1,19 @@
 -- Where content lines begin, while the physical lines are gone through.
-use Rattle.std.proofs.Common.{◌≡◌, ◌⊎◌, ◌∙◌, ap, sym, refl, subst, inl, inr, ℕ, ◌+◌, Bool, true, false, cond, List, [], ◌∷◌, ◌++◌, Bor, length, drop, ◌≤◌, ◌<◌, ◌^◌, ◌==◌, Option, Some, None, IfSome, Result, Ok, Err, OnOk, count_by, append_assoc, length-append, arith}
+use Rattle.std.proofs.Common.{◌≡◌, ◌⊎◌, ◌∙◌, ap, sym, refl, subst, inl, inr, ℕ, zero, suc, ◌+◌, Bool, true, false, cond, List, [], ◌∷◌, ◌++◌, Bor, length, drop, ◌≤◌, ◌<◌, ◌^◌, ◌==◌, Option, Some, None, Result, Ok, Err, OnOk, count_by, append_assoc, append-nil, length-append, filter, ◌&&◌, arith}
 use Rattle.std.specs.List.{slice_split}
+use Rattle.std.specs.Str.{IsUtf8, is_utf8}
+use Rattle.std.proofs.lemmas.Str.{IsUtf8-from_is_utf8, is_utf8-from_IsUtf8}
+use Rattle.ical_lines.specs.Breaks.{is_one_line}
+use Rattle.std.proofs.lemmas.Bool.{eqb-true, ltb-true}
 use Rattle.std.proofs.lemmas.List.{length-map}
+use Rattle.std.proofs.lemmas.List.Elements.{filter-append}
 use Rattle.std.proofs.lemmas.List.Sums.{count_by-le-length}
 use Rattle.std.proofs.lemmas.List.Splits.{length-slice_split}
-use Rattle.profile.specs.text.Lines.{is_continuation, gather, unfolded, physical_lines, without_mark, without_return, line_name}
+use Rattle.profile.specs.text.Lines.{is_continuation, gather, unfolded, physical_lines, without_mark, without_return, is_filled, line_name, reads_as_lines, text_has}
 use Rattle.ical_lines.specs.Unfold.{lines_after}
-use Rattle.fault_places.specs.Places.{IsPlace}
-use Rattle.fault_places.specs.Searching.{Finds, FoundIn, IsAt, IsBlamed, IsBlamedPlace, NotesBlame, with_possible}
-use Rattle.fault_places.specs.declared.blame.Blame as blame
-use Rattle.fault_places.specs.declared.blame.Blame.TheVariants as blames
-use Rattle.fault_places.specs.declared.place.Found.{Found}
+use Rattle.fault_places.specs.Places.{Begins, Continues, HasNoLine, IsHere, IsPlaceOf, is_sought, name_written, property_written}
+use Rattle.fault_places.specs.declared.place.Begun.{Begun}
 use Rattle.fault_places.specs.declared.place.Place.{Place}
-use Rattle.fault_places.specs.declared.place.Sought.{Sought}
-use Rattle.fault_places.specs.declared.place.Found.TheVariants.{Nothing, Possible, Several, Certain}
 
 -- ---- unfolding, in two parts
 
@@ -87,10 +87,6 @@ begins all left line content begun count u e =
       counted = omega (arith, u.counted, many);
     }
 
--- the first line, and the next
-pub first_of : (all left : List (List ℕ)) (line content : List ℕ) (begun count : ℕ) → all ≡ line ∷ left → content ≡ line → begun ≡ 1 → count ≡ 1 → Unfolds all left content begun count
-first_of all left line content begun count e c b n = rw (c, b, n) (first_line all left line e)
-
 -- their number fits in memory
 pub in_memory : (octets : List ℕ) (left : List (List ℕ)) (line content : List ℕ) (begun count : ℕ) → Unfolds (physical_lines (without_mark octets)) (line ∷ left) content begun count → length (without_mark octets) < 2 ^ 63 → count < 2 ^ 63
 in_memory octets left line content begun count u fits =
@@ -111,106 +107,143 @@ pub apart_by : (before : List (List ℕ)) (line : List ℕ) (more : List (List �
 apart_by before line more (inl e) = subst (λ (b : List (List ℕ)). unfolded (b ++ (line ∷ more)) ≡ unfolded b ++ unfolded (line ∷ more)) (sym e) refl
 apart_by before line more (inr e) = unfolded_apart before line more e
 
--- the place of this content line
-abbrev pub IsPlaceOf : List ℕ → ℕ → List ℕ → List ℕ → Type 0
-IsPlaceOf octets line property content = (at : IsPlace octets line property) × (at.content ≡ content)
+-- ---- the line that is sought
 
--- of the one that has begun, behind those lines
-abbrev pub place_at : (octets : List ℕ) (left : List (List ℕ)) (content : List ℕ) (others : List (List ℕ)) (begun count : ℕ) (property : List ℕ) → Unfolds (physical_lines (without_mark octets)) left content begun count
-    → gather content left ≡ content ∷ others → 0 < length content → (property ≡ []) ⊎ (property ≡ line_name content) → IsPlace octets begun property
-place_at octets left content others begun count property u e some named = record {
-  before = u.before;
-  after = u.line ∷ (u.continued ++ left);
-  content = content;
-  others = others;
-  lines = u.are;
-  counted = u.begins;
-  apart = apart_by u.before u.line (u.continued ++ left) u.starts;
-  begins = u.gathered left ∙ e;
-  some = some;
-  named = named;
+-- so far: the line that has begun, and how many of the lines before it aren't empty
+pub record Walks (octets : List ℕ) (number : ℕ) (left : List (List ℕ)) (content : List ℕ) (begun count sought : ℕ) : Type 0 where
+  pub unfolds : Unfolds (physical_lines (without_mark octets)) left content begun count
+  pub counted : number ≡ length (filter is_filled (unfolded unfolds.before)) + sought
+  pub more : 0 < sought
+
+pub first_walk : (octets : List ℕ) (number : ℕ) (left : List (List ℕ)) (line : List ℕ) (begun : Begun) → physical_lines (without_mark octets) ≡ line ∷ left → begun.content.items ≡ line → begun.line ≡ 1 → begun.count ≡ 1
+    → begun.sought ≡ number → 0 < number → Walks octets number left begun.content.items begun.line begun.count begun.sought
+first_walk octets number left line begun e c b n s more = rw (c, b, n, s) (walk e more)
+  where
+    walk : physical_lines (without_mark octets) ≡ line ∷ left → 0 < number → Walks octets number left line 1 1 number
+    walk e more = record {
+      unfolds = first_line (physical_lines (without_mark octets)) left line e;
+      counted = omega arith;
+      more = more;
+    }
+
+passed : (all before : List (List ℕ)) (content : List ℕ) → all ≡ before ++ content ∷ [] → length (filter is_filled all) ≡ length (filter is_filled before) + length (filter is_filled (content ∷ []))
+passed all before content e =
+    ap (λ ls. length (filter is_filled ls)) e ∙ ap length (filter-append is_filled before (content ∷ [])) ∙ length-append (filter is_filled before) (filter is_filled (content ∷ []))
+
+continued : (octets : List ℕ) (number : ℕ) (left : List (List ℕ)) (next content : List ℕ) (begun count sought : ℕ) → Walks octets number (next ∷ left) content begun count sought → is_continuation next ≡ true
+    → Walks octets number left (content ++ drop 1 next) begun (count + 1) sought
+continued octets number left next content begun count sought w e = record {
+  unfolds = continues (physical_lines (without_mark octets)) left next content begun count w.unfolds e;
+  counted = w.counted;
+  more = w.more;
 }
 
-placed : (octets : List ℕ) (left : List (List ℕ)) (content : List ℕ) (others : List (List ℕ)) (begun count : ℕ) (property : List ℕ) → Unfolds (physical_lines (without_mark octets)) left content begun count
-    → gather content left ≡ content ∷ others → 0 < length content → (property ≡ []) ⊎ (property ≡ line_name content) → IsPlaceOf octets begun property content
-placed octets left content others begun count property u e some named = (place_at octets left content others begun count property u e some named, refl)
+ended : (octets : List ℕ) (number : ℕ) (left : List (List ℕ)) (next content : List ℕ) (begun count sought later : ℕ) → Walks octets number (next ∷ left) content begun count sought → is_continuation next ≡ false
+    → sought ≡ length (filter is_filled (content ∷ [])) + later → 0 < later → Walks octets number left next (count + 1) (count + 1) later
+ended octets number left next content begun count sought later w e less more =
+    let u = w.unfolds in
+    let one : unfolded (u.before ++ (u.line ∷ u.continued)) ≡ unfolded u.before ++ content ∷ [] =
+    apart_by u.before u.line u.continued u.starts ∙ ap (λ ls. unfolded u.before ++ ls) (ap (gather u.line) (sym (append-nil u.continued)) ∙ u.gathered []) in
+    record {
+      unfolds = begins (physical_lines (without_mark octets)) left next content begun count u e;
+      counted = omega (arith, w.counted, less, passed (unfolded (u.before ++ (u.line ∷ u.continued))) (unfolded u.before) content one);
+      more = more;
+    }
 
--- the same place, and what its line has to do with the fault
-blamed_at : (sought : Sought) (octets : List ℕ) (line : ℕ) (property content : List ℕ) (place : Place) (b : blame.Blame) → IsPlaceOf octets line property content → IsBlamed sought content b → IsAt line property place
-    → (at : IsPlace octets place.line place.property.items) × IsBlamed sought at.content b
-blamed_at sought octets line property content place b is blamed (on, named) =
-    let L : ℕ → Type 0 = λ m. IsPlaceOf octets m place.property.items content in
-    let P : List ℕ → Type 0 = λ p. IsPlaceOf octets line p content in
-    let C : List ℕ → Type 0 = λ c. IsBlamed sought c b in
-    let (at, same) = subst L (sym on) (subst P (sym named) is) in
-    (at, subst C (sym same) blamed)
+pub walks_on : (octets : List ℕ) (number : ℕ) (left : List (List ℕ)) (next : List ℕ) (old new : Begun) → Walks octets number (next ∷ left) old.content.items old.line old.count old.sought
+    → Continues old next new ⊎ Begins old next new → new.count ≡ old.count + 1 → Walks octets number left new.content.items new.line new.count new.sought
+walks_on octets number left next old new w (inl is) one =
+    rw (is.content, is.line, is.sought, one) (continued octets number left next old.content.items old.line old.count old.sought w is.is)
+walks_on octets number left next old new w (inr is) one =
+    rw (is.content, is.line, one) (ended octets number left next old.content.items old.line old.count old.sought new.sought w is.is is.sought is.more)
 
-noted_in : (sought : Sought) (octets : List ℕ) (old new : Found) (b : blame.Blame) (line : ℕ) (property content : List ℕ) → IsPlaceOf octets line property content → IsBlamed sought content b → FoundIn sought octets old
-    → NotesBlame old b line property new → FoundIn sought octets new
-noted_in sought octets old new blames.None line property content is blamed before noted = subst (FoundIn sought octets) (sym noted) before
-noted_in sought octets old new blames.Certain line property content is blamed before (place, e, at) =
-    subst (FoundIn sought octets) (sym e) (blamed_at sought octets line property content place blames.Certain is blamed at)
-noted_in sought octets old new blames.Possible line property content is blamed before (place, e, at) = subst (FoundIn sought octets) (sym e) (alone old)
+true-false : true ≡ false → ⊥
+true-false e = cc
+
+-- its place
+one_filled : (content : List ℕ) (sought : ℕ) → (sought == 1 && is_filled content) ≡ true → (sought ≡ 1) × (0 < length content)
+one_filled content sought = go (sought == 1) (is_filled content) refl refl
   where
-    alone : (old : Found) → FoundIn sought octets (with_possible old place)
-    alone Nothing = blamed_at sought octets line property content place blames.Possible is blamed at
-    alone (Possible first) = tt
-    alone Several = tt
-    alone (Certain first) = tt
+    go : (t f : Bool) → (sought == 1) ≡ t → is_filled content ≡ f → (t && f) ≡ true → (sought ≡ 1) × (0 < length content)
+    go true true one some e = (eqb-true sought 1 one, ltb-true 0 (length content) some)
+    go true false one some e = absurd (true-false (sym e))
+    go false f one some e = absurd (true-false (sym e))
 
-found_by : (sought : Sought) (octets : List ℕ) (old new : Found) (line : ℕ) (content : List ℕ) → (0 < length content → (property : List ℕ) → (property ≡ []) ⊎ (property ≡ line_name content) → IsPlaceOf octets line property content)
-    → FoundIn sought octets old → Finds sought old new line content → FoundIn sought octets new
-found_by sought octets old new line content is before (inl e) = subst (FoundIn sought octets) (sym e) before
-found_by sought octets old new line content is before (inr (some, b, property, named, blamed, noted)) = noted_in sought octets old new b line property content (is some property named) blamed before noted
+pub here_is : (octets : List ℕ) (number : ℕ) (left others : List (List ℕ)) (begun : Begun) (place : Place) → Walks octets number left begun.content.items begun.line begun.count begun.sought
+    → gather begun.content.items left ≡ begun.content.items ∷ others → IsHere begun place → IsPlaceOf octets number place.line place.property.items
+here_is octets number left others begun place w e here =
+    let u = w.unfolds in
+    let (one, some) = one_filled begun.content.items begun.sought here.sought in
+    record {
+      before = u.before;
+      after = u.line ∷ (u.continued ++ left);
+      content = begun.content.items;
+      others = others;
+      lines = u.are;
+      counted = here.line ∙ u.begins;
+      apart = apart_by u.before u.line (u.continued ++ left) u.starts;
+      begins = u.gathered left ∙ e;
+      some = some;
+      numbered = w.counted ∙ ap (λ k. length (filter is_filled (unfolded u.before)) + k) one;
+      named = here.property;
+    }
 
--- what was found once the content line was looked at: another line comes, or none
-pub found_before : (sought : Sought) (octets : List ℕ) (old new : Found) (left : List (List ℕ)) (line content : List ℕ) (begun count : ℕ) → Unfolds (physical_lines (without_mark octets)) (line ∷ left) content begun count
-    → is_continuation line ≡ false → FoundIn sought octets old → Finds sought old new begun content → FoundIn sought octets new
-found_before sought octets old new left line content begun count u e before finds =
-    let ends : gather content (line ∷ left) ≡ content ∷ gather line left = ap (λ t. cond t (gather (content ++ drop 1 line) left) (content ∷ gather line left)) e in
-    found_by sought octets old new begun content (λ some property named. placed octets (line ∷ left) content (gather line left) begun count property u ends some named) before finds
+pub here_before : (octets : List ℕ) (number : ℕ) (left : List (List ℕ)) (next : List ℕ) (begun : Begun) (place : Place) → Walks octets number (next ∷ left) begun.content.items begun.line begun.count begun.sought
+    → is_continuation next ≡ false → IsHere begun place → IsPlaceOf octets number place.line place.property.items
+here_before octets number left next begun place w e here =
+    here_is octets number (next ∷ left) (gather next left) begun place w
+    (ap (λ t. cond t (gather (begun.content.items ++ drop 1 next) left) (begun.content.items ∷ gather next left)) e) here
 
-pub found_last : (sought : Sought) (octets : List ℕ) (old new : Found) (content : List ℕ) (begun count : ℕ) → Unfolds (physical_lines (without_mark octets)) [] content begun count
-    → FoundIn sought octets old → Finds sought old new begun content → FoundIn sought octets new
-found_last sought octets old new content begun count u before finds =
-    found_by sought octets old new begun content (λ some property named. placed octets [] content [] begun count property u refl some named) before finds
+-- there is none
+fewer : (content : List ℕ) (sought : ℕ) → (sought == 1 && is_filled content) ≡ false → 0 < sought → length (filter is_filled (content ∷ [])) < sought
+fewer content sought e more = go (is_filled content) refl
+  where
+    another : (n : ℕ) → 0 < n → (n == 1) ≡ false → 1 < n
+    another zero more other = absurd (omega (arith, more))
+    another (suc zero) more other = absurd (true-false other)
+    another (suc (suc k)) more other = omega arith
 
--- ---- the loop
+    not_one : (t : Bool) → (t && true) ≡ false → t ≡ false
+    not_one true e = e
+    not_one false e = refl
 
-step_by : (t : Bool) (sought : Sought) (octets : List ℕ) (left : List (List ℕ)) (line content next : List ℕ) (begun from count many : ℕ) (old new : Found) → is_continuation line ≡ t
-    → Unfolds (physical_lines (without_mark octets)) (line ∷ left) content begun count → FoundIn sought octets old → many ≡ count + 1
-    → (is_continuation line ≡ true → (new ≡ old) × (next ≡ content ++ drop 1 line) × (from ≡ begun))
-    → (is_continuation line ≡ false → Finds sought old new begun content × (next ≡ line) × (from ≡ many))
-    → Unfolds (physical_lines (without_mark octets)) left next from many × FoundIn sought octets new
-step_by true sought octets left line content next begun from count many old new e u found more goes ends =
-    let (same, is, at) = goes e in
-    (rw (is, at, more) (continues (physical_lines (without_mark octets)) left line content begun count u e), subst (FoundIn sought octets) (sym same) found)
-step_by false sought octets left line content next begun from count many old new e u found more goes ends =
-    let (finds, is, at) = ends e in
-    (rw (is, at, more) (begins (physical_lines (without_mark octets)) left line content begun count u e), found_before sought octets old new left line content begun count u e found finds)
+    go : (f : Bool) → is_filled content ≡ f → length (filter is_filled (content ∷ [])) < sought
+    go true some =
+        let one : length (filter is_filled (content ∷ [])) ≡ 1 = ap (λ b. length (cond b (content ∷ []) [])) some in
+        omega (arith, one, another sought more (not_one (sought == 1) (sym (ap (λ b. sought == 1 && b) some) ∙ e)))
+    go false none =
+        let no : length (filter is_filled (content ∷ [])) ≡ 0 = ap (λ b. length (cond b (content ∷ []) [])) none in
+        omega (arith, no, more)
 
-pub step : (sought : Sought) (octets : List ℕ) (left : List (List ℕ)) (line content next : List ℕ) (begun from count many : ℕ) (old new : Found)
-    → Unfolds (physical_lines (without_mark octets)) (line ∷ left) content begun count → FoundIn sought octets old → many ≡ count + 1
-    → (is_continuation line ≡ true → (new ≡ old) × (next ≡ content ++ drop 1 line) × (from ≡ begun))
-    → (is_continuation line ≡ false → Finds sought old new begun content × (next ≡ line) × (from ≡ many))
-    → Unfolds (physical_lines (without_mark octets)) left next from many × FoundIn sought octets new
-step sought octets left line content next begun from count many old new = step_by (is_continuation line) sought octets left line content next begun from count many old new refl
+pub no_line : (octets : List ℕ) (number : ℕ) (begun : Begun) → Walks octets number [] begun.content.items begun.line begun.count begun.sought → is_sought begun ≡ false → HasNoLine octets number
+no_line octets number begun w other =
+    let u = w.unfolds in
+    let all = unfolded (physical_lines (without_mark octets)) in
+    let one : all ≡ unfolded u.before ++ begun.content.items ∷ [] =
+    ap unfolded u.are ∙ apart_by u.before u.line (u.continued ++ []) u.starts ∙ ap (λ ls. unfolded u.before ++ ls) (u.gathered []) in
+    inr (omega (arith, w.counted, passed all (unfolded u.before) begun.content.items one, fewer begun.content.items begun.sought other w.more))
 
-pub place_in : (r : Option Place) (sought : Sought) (octets : List ℕ) (found : Found) → FoundIn sought octets found → IfSome r (λ place. (m : Sought) (o : List ℕ) → FoundIn m o found → IsBlamedPlace o m place.line place.property.items)
-    → IfSome r (λ place. IsBlamedPlace octets sought place.line place.property.items)
-place_in None sought octets found is all = tt
-place_in (Some place) sought octets found is all = all sought octets is
+-- ---- the property of a line
 
--- ---- the search
+-- octets that aren't read
+pub not_read : (octets : List ℕ) (n : ℕ) → (reads_as_lines false octets ≡ true → text_has false n octets ≡ false) → text_has false n octets ≡ true → property_written octets ≡ []
+not_read octets n fine has = go (reads_as_lines false octets) refl
+  where
+    go : (t : Bool) → reads_as_lines false octets ≡ t → property_written octets ≡ []
+    go true e = absurd (true-false (sym has ∙ fine e))
+    go false e = ap (λ t. cond t (name_written octets) []) e
 
--- what was found last
-pub place_found : (sought : Sought) (octets : List ℕ) (found : Found) (place : Place) → (found ≡ Possible place) ⊎ (found ≡ Certain place) → FoundIn sought octets found → IsBlamedPlace octets sought place.line place.property.items
-place_found sought octets found place (inl e) h =
-    let (at, blamed) = subst (FoundIn sought octets) e h in
-    record { at = at; blamed = inr blamed }
-place_found sought octets found place (inr e) h =
-    let (at, blamed) = subst (FoundIn sought octets) e h in
-    record { at = at; blamed = inl blamed }
+-- or are no text
+pub no_text : (octets : List ℕ) → (IsUtf8 octets → ⊥) → name_written octets ≡ []
+no_text octets none = go (is_utf8 octets) refl
+  where
+    go : (t : Bool) → is_utf8 octets ≡ t → name_written octets ≡ []
+    go true e = absurd (none (IsUtf8-from_is_utf8 octets e))
+    go false e = ap (λ t. cond (t && is_one_line octets) (line_name octets) []) e
+
+pub some_text : (octets : List ℕ) → IsUtf8 octets → is_one_line octets ≡ true → name_written octets ≡ line_name octets
+some_text octets text one =
+    ap (λ t. cond (t && is_one_line octets) (line_name octets) []) (is_utf8-from_IsUtf8 octets text) ∙ ap (λ t. cond (true && t) (line_name octets) []) one
 
 pub on_ok : {T E : Type 0} (r : Result T E) (P Q : Type 0) → (P → Q) → OnOk r P → OnOk r Q
 on_ok (Ok x) P Q f h = f h

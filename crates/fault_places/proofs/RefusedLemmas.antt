@@ -46,3 +46,18 @@ rest_among all left rest line inside e x there = inside x (subst (λ (l : List (
 -- what it names has the fault
 pub zone_fault : (object : Component) (n : ℕ) (zone : Component) → NamesRefused object n zone → HasZoneFault zone n
 zone_fault object n zone (event, there, named, by) = fault_of zone n by.fault
+
+-- so has one that is the same
+pub same_tree : (object : Component) (n : ℕ) (zone other : Component) → tree_of other ≡ tree_of zone → NamesRefused object n zone → NamesRefused object n other
+same_tree object n zone other same (event, there, named, by) = (
+  event,
+  there,
+  named,
+  record {
+    name = by.name;
+    line = by.line;
+    named = by.named;
+    meant = by.meant ∙ ap Some (sym same);
+    fault = subst (λ t. ZoneFault t n) (sym same) by.fault;
+  },
+)

@@ -1,7 +1,7 @@
 -- Which property of a VEVENT is missing, or there twice, and where it is in the octets (RFC 5545 3.6.1).
 use Rattle.std.specs.Prelude.{◌≡◌, ℕ, Bool, true, Contains, List, ◌++◌, codes, decimal, Option, Some, None}
-use Rattle.std.specs.List.{slice_get}
-use Rattle.ical_tree.specs.Tree.{IsObjectOf, component_children, component_lines, component_name}
+use Rattle.std.specs.List.{enumerate_from}
+use Rattle.ical_tree.specs.Tree.{ArePlaced, IsObjectOf, component_children, component_lines, component_name}
 use Rattle.ical_tree.specs.declared.component.Component.{Component}
 use Rattle.profile.specs.text.Lines.{is_same_name, logical_lines, reads_as_lines}
 use Rattle.profile.specs.text.Objects.{IsObject}
@@ -9,9 +9,8 @@ use Rattle.profile.specs.text.Trees.{Tree, tree_own, vevents}
 use Rattle.profile.specs.events.EventComponents.{Method, Property, PresenceFault, is_once, missing_number, occurs_once, presence, property_name}
 use Rattle.profile.specs.events.Messages.{NamesMethod}
 use Rattle.profile.specs.events.Properties.{IsMissing, OccursMoreThanOnce, SomeLine}
-use Rattle.fault_places.specs.InTheWay.{sought_line}
 use Rattle.fault_places.specs.Obstacles.{IsFirstLine, IsSecondLine, text_of}
-use Rattle.fault_places.specs.Searching.{IsBlamedPlace}
+use Rattle.fault_places.specs.Places.{IsSpotOf}
 use Rattle.fault_places.specs.declared.event_flaw.EventFlaw.{EventFlaw}
 use Rattle.fault_places.specs.declared.event_flaw.Flaw.{Flaw}
 use Rattle.fault_places.specs.declared.event_flaw.FlawKind.{FlawKind}
@@ -19,8 +18,6 @@ use Rattle.fault_places.specs.declared.event_flaw.FlawKind.TheVariants.{Missing,
 use Rattle.fault_places.specs.declared.event_flaw.ObjectFlaw.{ObjectFlaw}
 use Rattle.fault_places.specs.declared.event_flaw.ObjectFlaw.TheVariants.{Placed, Unplaced, Absent}
 use Rattle.fault_places.specs.declared.event_flaw.PlacedFlaw.{PlacedFlaw}
-use Rattle.fault_places.specs.declared.place.Sought.TheVariants.{Begin}
-use Rattle.fault_places.specs.declared.place.Spot.{Spot}
 
 -- these lines of a VEVENT lack the property; or this is the second line of it; or this one stands beside a DTEND
 abbrev pub IsFlawOf : List (List ℕ) → FlawKind → List ℕ → Option (List ℕ) → Type 0
@@ -32,31 +29,24 @@ IsFlawOf lines _ property _ = ⊥
 abbrev pub IsFlaw : List (List ℕ) → Flaw → Type 0
 IsFlaw lines flaw = IsFlawOf lines flaw.kind flaw.property.now (text_of flaw.line)
 
--- the VEVENT in this place among these components has it
+-- a VEVENT among these components has it
 pub record FlawIn (components : List Component) (found : EventFlaw) : Type 0 where
-  pub event : Component
-  pub in_place : slice_get components found.event ≡ Some event
-  pub is_event : is_same_name (component_name event) (codes "VEVENT") ≡ true
-  pub name : found.name.now ≡ component_name event
-  pub flaw : IsFlaw (component_lines event) found.flaw
+  pub among : Contains components found.event.now
+  pub is_event : is_same_name (component_name found.event.now) (codes "VEVENT") ≡ true
+  pub flaw : IsFlaw (component_lines found.event.now) found.flaw
 
--- where it is: the component in this place
-abbrev pub spot_of : EventFlaw → Spot
-spot_of found = record { zone = found.event; part = None }
-
--- this is what was found, and the octets have it there: a component of that name begins on this line, and that line is wrong
+-- this is what was found, and the octets have it there: the VEVENT begins on this line, and that line is wrong
 pub record IsFlawPlaced (octets : List ℕ) (found : EventFlaw) (flaw : PlacedFlaw) : Type 0 where
   pub kind : flaw.kind ≡ found.flaw.kind
   pub property : flaw.property.items ≡ found.flaw.property.now
-  pub event : flaw.event.items ≡ found.name.now
-  pub named : List ℕ
-  pub begins : IsBlamedPlace octets (Begin (spot_of found) found.name) flaw.begins named
-  pub place : IsBlamedPlace octets (sought_line (spot_of found) found.name found.flaw.line) flaw.place.line flaw.place.property.items
+  pub event : flaw.event.items ≡ component_name found.event.now
+  pub spot : IsSpotOf octets found.event.now (text_of found.flaw.line) (record { begins = flaw.begins; place = flaw.place })
 
 -- the octets are an object, of which a VEVENT has this flaw there
 pub record IsFlawIn (octets : List ℕ) (flaw : PlacedFlaw) : Type 0 where
   pub object : Component
   pub spelled : IsObjectOf true object (logical_lines octets)
+  pub numbered : ArePlaced (enumerate_from 1 (logical_lines octets)) object
   pub found : EventFlaw
   pub has : FlawIn (component_children object) found
   pub placed : IsFlawPlaced octets found flaw

@@ -1,19 +1,16 @@
 -- What of a VTIMEZONE is in the way in an object that is refused for it, and where it is in the octets.
-use Rattle.std.specs.Prelude.{◌≡◌, ℕ, true, List, codes, Contains, Option, Some, None}
-use denote.Ref.{Bor}
-use Rattle.ical_tree.specs.Tree.{IsObjectOf, component_children, component_lines, component_name, tree_of}
+use Rattle.std.specs.Prelude.{◌≡◌, ℕ, true, List, codes, Contains, Some}
+use Rattle.std.specs.List.{enumerate_from}
+use Rattle.ical_tree.specs.Tree.{ArePlaced, IsObjectOf, component_children, component_lines, component_name, tree_of}
 use Rattle.ical_tree.specs.declared.component.Component.{Component}
 use Rattle.profile.specs.text.Lines.{is_same_name, line_param, logical_lines}
 use Rattle.profile.specs.text.Trees.{Tree}
 use Rattle.profile.specs.series.ZoneTexts.{ZoneFault}
 use Rattle.profile.specs.events.ZonedTimes.{zone_named}
 use Rattle.profile.specs.doors.Uses.{IsLineIn}
-use Rattle.fault_places.specs.Obstacles.{IsCause}
-use Rattle.fault_places.specs.Searching.{IsBlamedPlace}
+use Rattle.fault_places.specs.Obstacles.{IsCause, text_of}
+use Rattle.fault_places.specs.Places.{IsSpotOf}
 use Rattle.fault_places.specs.declared.obstacle.PartCause.{PartCause}
-use Rattle.fault_places.specs.declared.place.Sought.{Sought}
-use Rattle.fault_places.specs.declared.place.Sought.TheVariants.{Begin, Text}
-use Rattle.fault_places.specs.declared.place.Spot.{Spot}
 use Rattle.fault_places.specs.declared.refused_zone.InTheWay.{InTheWay}
 
 -- ---- the VTIMEZONE
@@ -41,19 +38,11 @@ NamesRefused object n zone =
 
 -- ---- its places
 
--- the line that is in the way, or the BEGIN of the part
-abbrev pub sought_line : Spot → Bor (List ℕ) → Option (Bor (List ℕ)) → Sought
-sought_line spot name None = Begin spot name
-sought_line spot name (Some text) = Text spot text
-
--- this is what was found of a VTIMEZONE, and the octets have it there: a part of that name begins on this line, and that line is in the way
+-- this is what was found of a VTIMEZONE, and the octets have it there: the part begins on this line, and that line is in the way
 pub record IsPlacedInOctets (octets : List ℕ) (found : PartCause) (way : InTheWay) : Type 0 where
   pub obstacle : way.obstacle ≡ found.cause.obstacle
-  pub part : way.part.items ≡ found.name.now
-  pub spot : Spot
-  pub property : List ℕ
-  pub begins : IsBlamedPlace octets (Begin spot found.name) way.begins property
-  pub place : IsBlamedPlace octets (sought_line spot found.name found.cause.line) way.place.line way.place.property.items
+  pub part : way.part.items ≡ component_name found.component.now
+  pub spot : IsSpotOf octets found.component.now (text_of found.cause.line) (record { begins = way.begins; place = way.place })
 
 -- ---- what is in the way
 
@@ -61,7 +50,9 @@ pub record IsPlacedInOctets (octets : List ℕ) (found : PartCause) (way : InThe
 pub record IsInTheWay (octets : List ℕ) (n : ℕ) (way : InTheWay) : Type 0 where
   pub object : Component
   pub spelled : IsObjectOf true object (logical_lines octets)
+  pub numbered : ArePlaced (enumerate_from 1 (logical_lines octets)) object
   pub zone : Component
+  pub inside : Contains (component_children object) zone
   pub refused : NamesRefused object n zone
   pub found : PartCause
   pub cause : IsCause zone n found

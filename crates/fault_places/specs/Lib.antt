@@ -1,9 +1,4 @@
-pub mod Blame
-pub mod Blames
 pub mod EventFlaws
 pub mod InTheWay
-pub mod Nesting
 pub mod Obstacles
 pub mod Places
-pub mod Searching
-pub mod Tally

@@ -128,11 +128,11 @@ pub data IsPartCause (zone part : Component) : Obstacle → Option (List ℕ) �
 abbrev pub text_of : Option (Bor (List ℕ)) → Option (List ℕ)
 text_of line = option_map (λ text. text.now) line
 
--- what was found is in the way: that there is no part, or a part of this name
+-- what was found is in the way: that there is no part, or a part
 abbrev pub IsCause : Component → ℕ → PartCause → Type 0
 IsCause zone n found =
-    ((zone_parts zone ≡ []) × (found.name.now ≡ component_name zone) × (found.cause.obstacle ≡ NoPart) × (text_of found.cause.line ≡ None) × (n ≡ 40))
-    ⊎ ((part : Component) × (found.name.now ≡ component_name part) × IsPartCause zone part found.cause.obstacle (text_of found.cause.line) n)
+    ((zone_parts zone ≡ []) × (found.component.now ≡ zone) × (found.cause.obstacle ≡ NoPart) × (text_of found.cause.line ≡ None) × (n ≡ 40))
+    ⊎ ((part : Component) × (found.component.now ≡ part) × IsPartCause zone part found.cause.obstacle (text_of found.cause.line) n)
 
 -- ---- what is found on the way
 
@@ -147,22 +147,22 @@ IsLocalOnce part = (line : List ℕ) × (lines_named (codes "DTSTART") part ≡ 
 -- a first part of this name has a rule, or there is none of it
 abbrev pub IsLonely : Component → List ℕ → PartCause → Type 0
 IsLonely zone name found =
-    ((parts_named zone name ≡ []) × (found.name.now ≡ component_name zone) × (found.cause.obstacle ≡ NoPart) × (text_of found.cause.line ≡ None))
-    ⊎ ((part : Component) × (line : List ℕ) × IsNthPart zone name 0 part × (found.name.now ≡ component_name part) × (found.cause.obstacle ≡ RuledAlone)
+    ((parts_named zone name ≡ []) × (found.component.now ≡ zone) × (found.cause.obstacle ≡ NoPart) × (text_of found.cause.line ≡ None))
+    ⊎ ((part : Component) × (line : List ℕ) × IsNthPart zone name 0 part × (found.component.now ≡ part) × (found.cause.obstacle ≡ RuledAlone)
     × (text_of found.cause.line ≡ Some line) × IsFirstLine (codes "RRULE") (component_lines part) line)
 
 -- what of the rule of this part is in the way
 abbrev pub HasRuleCause : Component → PartCause → Type 0
-HasRuleCause part found = (found.name.now ≡ component_name part) × IsRuleCause (component_lines part) found.cause.obstacle (text_of found.cause.line)
+HasRuleCause part found = (found.component.now ≡ part) × IsRuleCause (component_lines part) found.cause.obstacle (text_of found.cause.line)
 
 abbrev pub HasUnmatched : Component → Component → PartCause → Type 0
 HasUnmatched part other found =
-    (line : List ℕ) × (found.name.now ≡ component_name part) × (found.cause.obstacle ≡ Unmatched) × (text_of found.cause.line ≡ Some line)
+    (line : List ℕ) × (found.component.now ≡ part) × (found.cause.obstacle ≡ Unmatched) × (text_of found.cause.line ≡ Some line)
     × IsUnmatched (component_lines part) (component_lines other) line
 
 abbrev pub HasFar : Component → PartCause → Type 0
 HasFar part found =
-    (line : List ℕ) × (found.name.now ≡ component_name part) × (found.cause.obstacle ≡ FarApart) × (text_of found.cause.line ≡ Some line) × IsFar (component_lines part) line
+    (line : List ℕ) × (found.component.now ≡ part) × (found.cause.obstacle ≡ FarApart) × (text_of found.cause.line ≡ Some line) × IsFar (component_lines part) line
 
 -- ---- the words
 

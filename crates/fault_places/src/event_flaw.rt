@@ -9,12 +9,12 @@ ghost use Rattle.profile.specs.events.Properties.{IsMissing};
 ghost use Rattle.cal_events.specs.Component.{method_said};
 ghost use Rattle.cal_events.specs.Property.{property_said};
 ghost use Rattle.fault_places.specs.EventFlaws.{AreFree, AreRight, FlawIn, IsFlaw, IsFlawPlaced, IsFree, IsToldFlaw, OccursRightly};
-ghost use Rattle.fault_places.specs.InTheWay.{sought_line};
 ghost use Rattle.fault_places.specs.Obstacles.{text_of};
 
 use crate::obstacle::{first_line, second_line};
-use crate::place::{Place, Sought, Spot, place_of};
+use crate::place::Place;
 use crate::refused_zone::{object_of, text_of};
+use crate::spot::spot_of;
 use cal_events::{Method, PROPERTIES, Property};
 use ical_lines::{Refusal, read_lines_are_content};
 use ical_tree::{Component, one_tree};
@@ -42,12 +42,10 @@ pub(crate) struct Flaw<'a> {
 
 /// What is wrong with a component of an object.
 #[derive(Clone, Copy)]
-pub(crate) struct EventFlaw<'a> {
-    /// Which of the components inside it is the VEVENT, counted from 0.
-    pub(crate) event: usize,
-    /// Its name, as it is written.
-    pub(crate) name: &'a str,
-    pub(crate) flaw: Flaw<'a>,
+pub(crate) struct EventFlaw<'c, 'a> {
+    /// The VEVENT.
+    pub(crate) event: &'c Component<'a>,
+    pub(crate) flaw: Flaw<'c>,
 }
 
 /// What is wrong with a component, with its places in the object.
@@ -99,19 +97,15 @@ pub fn flaw_in_object(alloc: Global, octets: &[u8], number: u8) -> Result<Object
 }
 
 /// The first flaw of a VEVENT of an object.
-fn first_flaw<'c>(object: &'c Component, number: u8) -> Option<EventFlaw<'c>>
+fn first_flaw<'c, 'a>(object: &'c Component<'a>, number: u8) -> Option<EventFlaw<'c, 'a>>
     ensures found { IfSome result (FlawIn (component_children object.now)) }
     ensures none { IfNone result ((method : profile.Method) → NamesMethod (component_lines object.now) method → AreFree method number (component_children object.now)) }
 {
     let method = method_of(object);
-    for (event, component) in object.children().iter().enumerate() {
-        if component.is_named("VEVENT") {
-            if let Some(flaw) = flaw_of(component, method, number) {
-                return Some(EventFlaw {
-                    event,
-                    name: component.name(),
-                    flaw,
-                });
+    for event in object.children() {
+        if event.is_named("VEVENT") {
+            if let Some(flaw) = flaw_of(event, method, number) {
+                return Some(EventFlaw { event, flaw });
             }
         }
     }
@@ -218,39 +212,22 @@ impl<'a> Flaw<'a> {
 fn placed(
     alloc: Global,
     octets: &[u8],
-    found: EventFlaw<'_>,
+    found: EventFlaw<'_, '_>,
 ) -> Result<Option<PlacedFlaw>, AllocError>
     ensures { IfOk result (λ flaw. IfSome flaw (IsFlawPlaced octets.now found.entry)) }
 {
-    let spot = Spot {
-        zone: found.event,
-        part: None,
-    };
-    let Some(begins) = place_of(alloc, octets, Sought::Begin(spot, found.name))? else {
-        return Ok(None);
-    };
-    let Some(place) = place_of(alloc, octets, sought_line(spot, found))? else {
+    let Some(spot) = spot_of(alloc, octets, found.event, found.flaw.line)? else {
         return Ok(None);
     };
     let mut event = Vec::new(alloc);
-    event.extend_from_slice(found.name.as_bytes())?;
+    event.extend_from_slice(found.event.name().as_bytes())?;
     let mut property = Vec::new(alloc);
     property.extend_from_slice(found.flaw.property.as_bytes())?;
     Ok(Some(PlacedFlaw {
         kind: found.flaw.kind,
         property,
         event,
-        begins: begins.line,
-        place,
+        begins: spot.begins,
+        place: spot.place,
     }))
-}
-
-/// The line that is wrong, or the BEGIN of the VEVENT.
-fn sought_line<'a>(spot: Spot, found: EventFlaw<'a>) -> Sought<'a>
-    ensures { result ≡ sought_line spot found.entry.name found.entry.flaw.line }
-{
-    match found.flaw.line {
-        Some(text) => Sought::Text(spot, text),
-        None => Sought::Begin(spot, found.name),
-    }
 }

@@ -1,14 +1,13 @@
-//! Where in an object the fault is that it is refused for: the line, the property, and what of a VTIMEZONE or a VEVENT is in the way.
+//! Where in an object a fault is: the physical line and the property of a logical line, and what of a VTIMEZONE or a VEVENT is in the way.
 #![tactic(auto)]
 
-mod blame;
 mod event_flaw;
 mod obstacle;
-mod open_components;
 mod place;
 mod refused_zone;
+mod spot;
 
 pub use event_flaw::{FlawKind, ObjectFlaw, PlacedFlaw, flaw_in_object};
 pub use obstacle::{Obstacle, PartTime};
-pub use place::{Place, Sought, Spot, place_of};
+pub use place::{Place, place_of};
 pub use refused_zone::{InTheWay, in_the_way};

@@ -69,12 +69,10 @@ pub(crate) struct Cause<'a> {
 
 /// What of a VTIMEZONE is in the way.
 #[derive(Clone, Copy)]
-pub(crate) struct PartCause<'a> {
-    /// Which of the components inside it is the part, counted from 0; None where it is the VTIMEZONE itself.
-    pub(crate) part: Option<usize>,
-    /// The name of that component, as it is written.
-    pub(crate) name: &'a str,
-    pub(crate) cause: Cause<'a>,
+pub(crate) struct PartCause<'c, 'a> {
+    /// The part, or the VTIMEZONE itself.
+    pub(crate) component: &'c Component<'a>,
+    pub(crate) cause: Cause<'c>,
 }
 
 /// A part of a VTIMEZONE, by its place among the components inside.
@@ -88,11 +86,11 @@ struct Part<'c, 'a> {
 const HALF_DAY: u32 = 43_200;
 
 /// What is in the way of a VTIMEZONE that is refused with this number, from 40 to 42.
-pub(crate) fn cause_in<'c>(
+pub(crate) fn cause_in<'c, 'a>(
     alloc: Global,
-    zone: &'c Component,
+    zone: &'c Component<'a>,
     number: u8,
-) -> Result<Option<PartCause<'c>>, AllocError>
+) -> Result<Option<PartCause<'c, 'a>>, AllocError>
     requires { HasZoneFault zone.now number }
     ensures { IfOk result (λ found. IfSome found (IsCause zone.now number)) }
 {
@@ -105,7 +103,10 @@ pub(crate) fn cause_in<'c>(
 }
 
 /// What is in the way of one that is refused for its shape: the times of a part come before the other parts, and those before their rules.
-fn shape_cause<'c>(alloc: Global, zone: &'c Component) -> Result<Option<PartCause<'c>>, AllocError>
+fn shape_cause<'c, 'a>(
+    alloc: Global,
+    zone: &'c Component<'a>,
+) -> Result<Option<PartCause<'c, 'a>>, AllocError>
     requires { HasZoneFault zone.now 40 }
     ensures { IfOk result (λ found. IfSome found (IsCause zone.now 40)) }
 {
@@ -128,7 +129,7 @@ fn shape_cause<'c>(alloc: Global, zone: &'c Component) -> Result<Option<PartCaus
 }
 
 /// What is in the way of the times of the first part where something is.
-fn first_times_cause<'c>(zone: &'c Component) -> Option<PartCause<'c>>
+fn first_times_cause<'c, 'a>(zone: &'c Component<'a>) -> Option<PartCause<'c, 'a>>
     ensures found { IfSome result (IsCause zone.now 40) }
     ensures none { IfNone result ((part : List (List ℕ)) → Contains (zone_parts zone.now) part → TimesFault part 40 → ⊥) }
 {
@@ -195,13 +196,12 @@ fn is_fixed(line: Line<'_>) -> bool
 }
 
 /// What is in the way where there is no part of the other name: the RRULE of the one part; or that there is no part.
-fn lonely_cause<'c>(zone: &'c Component, name: &str) -> Option<PartCause<'c>>
+fn lonely_cause<'c, 'a>(zone: &'c Component<'a>, name: &str) -> Option<PartCause<'c, 'a>>
     ensures { IfSome result (IsLonely zone.now name.now) }
 {
     let Some(part) = first_part(zone, name) else {
         return Some(PartCause {
-            part: None,
-            name: zone.name(),
+            component: zone,
             cause: Cause::itself(Obstacle::NoPart),
         });
     };
@@ -210,11 +210,11 @@ fn lonely_cause<'c>(zone: &'c Component, name: &str) -> Option<PartCause<'c>>
 }
 
 /// What is in the way of the rule of one of two parts.
-fn rules_cause<'c>(
+fn rules_cause<'c, 'a>(
     alloc: Global,
-    standard: Part<'c, '_>,
-    daylight: Part<'c, '_>,
-) -> Result<Option<PartCause<'c>>, AllocError>
+    standard: Part<'c, 'a>,
+    daylight: Part<'c, 'a>,
+) -> Result<Option<PartCause<'c, 'a>>, AllocError>
     ensures { IfOk result (λ found. IfSome found (λ cause. HasRuleCause standard.entry.component.now cause ⊎ HasRuleCause daylight.entry.component.now cause)) }
 {
     if let Some(cause) = rule_cause(alloc, standard.component)? {
@@ -264,7 +264,7 @@ fn rule_obstacle(alloc: Global, text: &str) -> Result<Option<Obstacle>, AllocErr
 }
 
 /// What is in the way of a VTIMEZONE whose offsets don't match.
-fn offsets_cause<'c>(zone: &'c Component) -> Option<PartCause<'c>>
+fn offsets_cause<'c, 'a>(zone: &'c Component<'a>) -> Option<PartCause<'c, 'a>>
     ensures { IfSome result (IsCause zone.now 41) }
 {
     let Some(standard) = first_part(zone, "STANDARD") else {
@@ -283,7 +283,7 @@ fn offsets_cause<'c>(zone: &'c Component) -> Option<PartCause<'c>>
 }
 
 /// TZOFFSETFROM of a part, where it isn't the TZOFFSETTO of the other part.
-fn unmatched_cause<'c>(part: Part<'c, '_>, other: Part<'c, '_>) -> Option<PartCause<'c>>
+fn unmatched_cause<'c, 'a>(part: Part<'c, 'a>, other: Part<'c, 'a>) -> Option<PartCause<'c, 'a>>
     ensures { IfSome result (HasUnmatched part.entry.component.now other.entry.component.now) }
 {
     let line = first_line(part.component, "TZOFFSETFROM")?;
@@ -297,7 +297,7 @@ fn unmatched_cause<'c>(part: Part<'c, '_>, other: Part<'c, '_>) -> Option<PartCa
 }
 
 /// TZOFFSETTO of a part, where it is more than 12 hours from its TZOFFSETFROM.
-fn far_cause<'c>(part: Part<'c, '_>) -> Option<PartCause<'c>>
+fn far_cause<'c, 'a>(part: Part<'c, 'a>) -> Option<PartCause<'c, 'a>>
     ensures { IfSome result (HasFar part.entry.component.now) }
 {
     let line = first_line(part.component, "TZOFFSETTO")?;
@@ -311,7 +311,7 @@ fn far_cause<'c>(part: Part<'c, '_>) -> Option<PartCause<'c>>
 }
 
 /// DAYLIGHT, where it begins too close to STANDARD.
-fn close_cause<'c>(zone: &'c Component) -> Option<PartCause<'c>>
+fn close_cause<'c, 'a>(zone: &'c Component<'a>) -> Option<PartCause<'c, 'a>>
     ensures { IfSome result (IsCause zone.now 42) }
 {
     let part = first_part(zone, "DAYLIGHT")?;
@@ -479,20 +479,19 @@ impl<'a> Cause<'a> {
 
 impl<'c, 'a> Part<'c, 'a> {
     /// With what of it is in the way.
-    fn with(self, cause: Cause<'c>) -> PartCause<'c>
-        ensures name { result.name.now ≡ component_name self.entry.component.now }
+    fn with(self, cause: Cause<'c>) -> PartCause<'c, 'a>
+        ensures component { result.component.now ≡ self.entry.component.now }
         ensures cause { result.cause ≡ cause.entry }
     {
         PartCause {
-            part: Some(self.place),
-            name: self.component.name(),
+            component: self.component,
             cause,
         }
     }
 
     /// Which is in the way itself.
-    fn itself(self, obstacle: Obstacle) -> PartCause<'c>
-        ensures name { result.name.now ≡ component_name self.entry.component.now }
+    fn itself(self, obstacle: Obstacle) -> PartCause<'c, 'a>
+        ensures component { result.component.now ≡ self.entry.component.now }
         ensures obstacle { result.cause.obstacle ≡ obstacle }
         ensures line { text_of result.cause.line ≡ None }
     {

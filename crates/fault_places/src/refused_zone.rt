@@ -1,16 +1,18 @@
 //! What is in the way of a VTIMEZONE that an object is refused for, and where in the object it is (RFC 5545 3.2.19, 3.6.5).
 
-ghost use Rattle.std.specs.Prelude.{◌≡◌, ℕ, true, IfNone, IfOk, IfSome};
+ghost use Rattle.std.specs.Prelude.{◌≡◌, ℕ, true, Contains, IfNone, IfOk, IfSome};
+ghost use Rattle.std.specs.List.{enumerate_from};
 ghost use Rattle.ical_lines.specs.Text.{line_text};
 ghost use Rattle.ical_tree.specs.Reading.{TreeHas};
-ghost use Rattle.ical_tree.specs.Tree.{IsObjectOf, component_lines, tree_of};
+ghost use Rattle.ical_tree.specs.Tree.{ArePlaced, IsObjectOf, component_children, component_lines, tree_of};
 ghost use Rattle.profile.specs.text.Lines.{logical_lines, text_has};
 ghost use Rattle.profile.specs.series.ZoneTexts.{ZoneFault};
 ghost use Rattle.cal_doors.specs.Named.{AreNamed};
-ghost use Rattle.fault_places.specs.InTheWay.{IsInTheWay, IsPlacedInOctets, IsRefusedAs, NamesRefused, RefusedBy, sought_line};
+ghost use Rattle.fault_places.specs.InTheWay.{IsInTheWay, IsPlacedInOctets, IsRefusedAs, NamesRefused, RefusedBy};
 
 use crate::obstacle::{Obstacle, PartCause, cause_in};
-use crate::place::{Place, Sought, Spot, place_of};
+use crate::place::Place;
+use crate::spot::spot_of;
 use cal_doors::{NamedZones, is_time_line};
 use cal_zones::Zone;
 use ical_lines::{Fault, Limits, Line, Unfolded};
@@ -48,10 +50,13 @@ pub fn in_the_way(alloc: Global, octets: &[u8], number: u8) -> Result<Option<InT
     let Some(zone) = refused_zone(alloc, &object, &zones, number)? else {
         return Ok(None);
     };
-    let Some(found) = cause_in(alloc, zone, number)? else {
+    let Some(zone) = child_like(&object, zone) else {
         return Ok(None);
     };
-    placed(alloc, octets, which(&object, zone), found)
+    match cause_in(alloc, zone, number)? {
+        Some(found) => placed(alloc, octets, found),
+        None => Ok(None),
+    }
 }
 
 /// The lines of octets within the limits of a message. None where they aren't.
@@ -71,7 +76,7 @@ pub(crate) fn object_of<'a>(
     alloc: Global,
     text: &'a Unfolded<'_>,
 ) -> Result<Option<Component<'a>>, AllocError>
-    ensures found { IfOk result (λ found. IfSome found (λ object. IsObjectOf true object text.now)) }
+    ensures found { IfOk result (λ found. IfSome found (λ object. IsObjectOf true object text.now × ArePlaced (enumerate_from 1 text.now) object)) }
     ensures none { IfOk result (λ found. IfNone found ((n : ℕ) × TreeHas true n text.now)) }
 {
     match read_object(alloc, text, Limits::Message) {
@@ -161,51 +166,35 @@ fn is_refused(alloc: Global, zone: &Component, number: u8) -> Result<bool, Alloc
     }
 }
 
-/// Which of the components of an object one is, counted from 0: the first that is the same.
-fn which(object: &Component, zone: &Component) -> usize {
-    for (place, child) in object.children().iter().enumerate() {
+/// The component of an object that is the same as one.
+fn child_like<'c, 'a>(object: &'c Component<'a>, zone: &Component) -> Option<&'c Component<'a>>
+    ensures { IfSome result (λ child. Contains (component_children object.now) child.now × (tree_of child.now ≡ tree_of zone.now)) }
+{
+    for child in object.children() {
         if child.is_same(zone) {
-            return place;
+            return Some(child);
         }
     }
-    object.children().len()
+    None
 }
 
 /// What is in the way, with its places in the object.
 fn placed(
     alloc: Global,
     octets: &[u8],
-    zone: usize,
-    found: PartCause<'_>,
+    found: PartCause<'_, '_>,
 ) -> Result<Option<InTheWay>, AllocError>
     ensures { IfOk result (λ way. IfSome way (IsPlacedInOctets octets.now found.entry)) }
 {
-    let spot = Spot {
-        zone,
-        part: found.part,
-    };
-    let Some(begins) = place_of(alloc, octets, Sought::Begin(spot, found.name))? else {
-        return Ok(None);
-    };
-    let Some(place) = place_of(alloc, octets, sought_line(spot, found))? else {
+    let Some(spot) = spot_of(alloc, octets, found.component, found.cause.line)? else {
         return Ok(None);
     };
     let mut part = Vec::new(alloc);
-    part.extend_from_slice(found.name.as_bytes())?;
+    part.extend_from_slice(found.component.name().as_bytes())?;
     Ok(Some(InTheWay {
         obstacle: found.cause.obstacle,
         part,
-        begins: begins.line,
-        place,
+        begins: spot.begins,
+        place: spot.place,
     }))
-}
-
-/// The line that is in the way, or the BEGIN of the part.
-fn sought_line<'a>(spot: Spot, found: PartCause<'a>) -> Sought<'a>
-    ensures { result ≡ sought_line spot found.entry.name found.entry.cause.line }
-{
-    match found.cause.line {
-        Some(text) => Sought::Text(spot, text),
-        None => Sought::Begin(spot, found.name),
-    }
 }

@@ -1,12 +1,12 @@
 -- Which number lines are refused with.
-use Rattle.std.proofs.Common.{◌≡◌, ℕ, suc, ◌+◌, ◌-◌, Bool, true, false, ◌&&◌, ◌||◌, cond, eqb, ltb, Option, None, Some, List, [], ◌∷◌, length, take, refl, ap, subst, ◌∙◌, arith}
-use Rattle.std.specs.List.{find, list_any}
+use Rattle.std.proofs.Common.{◌≡◌, ℕ, suc, ◌+◌, ◌-◌, Bool, true, false, not, ◌&&◌, ◌||◌, cond, eqb, ltb, Option, None, Some, List, [], ◌∷◌, length, take, refl, ap, subst, ◌∙◌, arith}
+use Rattle.std.specs.List.{find, list_any, prefix_len}
 use Rattle.std.proofs.Math.Bool.{or-true}
 use Rattle.std.proofs.lemmas.Bool.{ltb-false, ltb-true, lt-ltb}
 use Rattle.std.proofs.lemmas.Bool.Decides.{Decides-eqb}
 use Rattle.std.specs.Str.{is_utf8}
 use Rattle.profile.specs.text.Lines.{ended, logical_lines, line_has, is_faulty, lacks_colon, has_bad_name, has_bad_quote, has_control}
-use Rattle.profile.specs.faults.First.{least_fault, judged, fault_of, lines_fault, text_fault, is_number}
+use Rattle.profile.specs.faults.First.{least_fault, judged, fault_of, lines_fault, lines_place, text_fault, text_place, is_number}
 
 -- the lines that are judged, after this many
 abbrev pub judged_after : Bool → ℕ → List (List ℕ) → List (List ℕ)
@@ -65,4 +65,27 @@ lines_first b n octets lines e u o h =
     let k : is_number (lines_fault b (logical_lines octets)) n ≡ true = (let P : List (List ℕ) → Type 0 = λ ls. is_number (lines_fault b ls) n ≡ true in subst P e h) in
     rw (o, u) k
 
--- ---- octets that read as lines are refused with no number of lines
+-- ---- at which line
+
+abbrev pub is_right : List ℕ → Bool
+is_right line = not (is_faulty line)
+
+-- a line without a fault is passed
+pub next_place : (b : Bool) (count : ℕ) (line : List ℕ) (rest lines : List (List ℕ)) → lines ≡ line ∷ rest → (b && ltb 65536 (count + 1)) ≡ false → is_faulty line ≡ false → prefix_len is_right (judged_after b count lines) ≡ 1 + prefix_len is_right (judged_after b (count + 1) rest)
+next_place false count line rest lines e w f = rw (e, f) refl
+next_place true count line rest lines e w f = rw (e, within count w, f) refl
+
+-- one with a fault isn't
+pub fault_place : (b : Bool) (count : ℕ) (line : List ℕ) (rest lines : List (List ℕ)) → lines ≡ line ∷ rest → (b && ltb 65536 (count + 1)) ≡ false → is_faulty line ≡ true → prefix_len is_right (judged_after b count lines) ≡ 0
+fault_place false count line rest lines e w f = rw (e, f) refl
+fault_place true count line rest lines e w f = rw (e, within count w, f) refl
+
+-- nor is one that is too many
+pub bound_place : (b : Bool) (count : ℕ) (lines : List (List ℕ)) → (b && ltb 65536 (count + 1)) ≡ true → prefix_len is_right (judged_after b count lines) ≡ 0
+bound_place false count lines m = cc
+bound_place true count lines m =
+    let none : 65536 - count ≡ 0 = omega (arith, ltb-true 65536 (count + 1) m) in
+    rw none refl
+
+pub lines_at : (b : Bool) (at : ℕ) (octets : List ℕ) (lines : List (List ℕ)) → lines ≡ logical_lines octets → is_utf8 (ended (logical_lines octets)) ≡ true → (b && ltb 1048576 (length octets)) ≡ false → at ≡ lines_place b lines → at ≡ text_place b octets
+lines_at b at octets lines e u o h = rw (o, u) (h ∙ ap (lines_place b) e)

@@ -4,6 +4,7 @@ pub mod BreakLemmas
 pub mod ContentLemmas
 pub mod CutLemmas
 pub mod EndLemmas
+pub mod FaultLemmas
 pub mod FirstLemmas
 pub mod FoldLemmas
 pub mod PieceLemmas

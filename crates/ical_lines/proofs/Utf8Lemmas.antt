@@ -1,7 +1,7 @@
 -- A text is UTF-8 exactly where its lines are: LF and CR split no character.
 use Rattle.std.proofs.Common.{◌≡◌, inl, inr, map, filter, ℕ, ◌+◌, ◌-◌, ◌<◌, Bool, true, false, cond, eqb, List, [], ◌∷◌, ◌++◌, length, take, drop, get_or, refl, ap, sym, subst, ◌∙◌, arith}
 use Rattle.std.specs.Str.{IsUtf8, is_utf8}
-use Rattle.std.specs.List.{slice_split, join_with_byte}
+use Rattle.std.specs.List.{slice_split, join_with_byte, prefix_len}
 use Rattle.std.proofs.lemmas.List.{append_assoc, length-append, get_or_at, take_at, drop_at, drop_more, drop_all, take-append-drop}
 use Rattle.std.proofs.lemmas.List.Splits.{join_with_byte-slice_split}
 use Rattle.std.proofs.lemmas.Bool.{false_from_ne_true, true≢false}
@@ -116,3 +116,28 @@ pub text_not_utf8 : (text : List ℕ) (lines : List (List ℕ)) → lines_of tex
 text_not_utf8 text lines e h =
     let whole : IsUtf8 (ended (lines_of text)) → IsUtf8 text = λ u. subst IsUtf8 (join_with_byte-slice_split 10 text) (join_utf8 (slice_split is_break text) (with_returns (slice_split is_break text) (all_utf8 (physical_lines text) (lines_utf8 (lines_of text) u)))) in
     ap (λ ls. is_utf8 (ended ls)) (sym e) ∙ false_from_ne_true (is_utf8 (ended (lines_of text))) (λ t. h (whole (IsUtf8-from_is_utf8 (ended (lines_of text)) t)))
+
+-- ---- at which line
+
+pub stops_at : (at : ℕ) (text : List ℕ) (lines : List (List ℕ)) → at ≡ 1 + prefix_len is_utf8 (lines_of text) → lines_of text ≡ lines → at ≡ 1 + prefix_len is_utf8 lines
+stops_at at text lines e same = e ∙ ap (λ ls. 1 + prefix_len is_utf8 ls) same
+
+-- a line that isn't UTF-8 is filled, and is where the lines stop being it
+pub stops_here : (line : List ℕ) (rest : List (List ℕ)) → (IsUtf8 line → ⊥) → prefix_len is_utf8 (filter is_filled (line ∷ rest)) ≡ 0
+stops_here [] rest h = absurd (h IsUtf8-nil)
+stops_here (c ∷ cs) rest h =
+    let filled : is_filled (c ∷ cs) ≡ true = filled_cons c cs in
+    let not : is_utf8 (c ∷ cs) ≡ false = false_from_ne_true (is_utf8 (c ∷ cs)) (λ t. h (IsUtf8-from_is_utf8 (c ∷ cs) t)) in
+    rw (filled, not) refl
+
+-- one that is and is filled is passed
+pub passes_on : (line : List ℕ) (rest : List (List ℕ)) → IsUtf8 line → eqb (length line) 0 ≡ false → prefix_len is_utf8 (filter is_filled (line ∷ rest)) ≡ 1 + prefix_len is_utf8 (filter is_filled rest)
+passes_on [] rest u e = absurd (true≢false e)
+passes_on (c ∷ cs) rest u e =
+    let filled : is_filled (c ∷ cs) ≡ true = filled_cons c cs in
+    let is : is_utf8 (c ∷ cs) ≡ true = is_utf8-from_IsUtf8 (c ∷ cs) u in
+    rw (filled, is) refl
+
+pub counts_on : (line : List ℕ) (rest : List (List ℕ)) → eqb (length line) 0 ≡ false → length (filter is_filled (line ∷ rest)) ≡ 1 + length (filter is_filled rest)
+counts_on [] rest e = absurd (true≢false e)
+counts_on (c ∷ cs) rest e = let filled : is_filled (c ∷ cs) ≡ true = filled_cons c cs in rw filled (omega arith)

@@ -1,5 +1,6 @@
 -- A text of lines, and what the types that lend them show.
-use Rattle.std.specs.Prelude.{ℕ, List, map}
+use Rattle.std.specs.Prelude.{ℕ, ◌+◌, List, map}
+use Rattle.std.specs.List.{enumerate_from}
 use Rattle.std.specs.String.{string_bytes}
 use Rattle.profile.specs.text.Lines.{param_name, param_value}
 use Rattle.ical_lines.specs.Pieces.{pieces_left}
@@ -29,6 +30,14 @@ params_left p = map param_of (pieces_left p.pieces)
 -- the lines that are still to come
 abbrev pub lines_left : Lines → List (List ℕ)
 lines_left s = lines_of s.rest.now
+
+-- they with their numbers
+abbrev pub numbered_left : Lines → List (ℕ × List ℕ)
+numbered_left s = enumerate_from (s.passed + 1) (lines_left s)
+
+-- a line with its number
+abbrev pub numbered : Line → ℕ × List ℕ
+numbered line = (line.number, line.text.now)
 
 -- the octets of a text, whoever holds them
 abbrev pub unfolded_octets : UnfoldedText → List ℕ

@@ -6,15 +6,17 @@ ghost use Rattle.ical_lines.specs.Breaks.{is_one_line, value_or_none};
 ghost use Rattle.ical_lines.specs.Plain.{IsPlain};
 ghost use Rattle.ical_lines.specs.PiecesOf.{pieces_of};
 
-use crate::fault::Refusal;
+use crate::fault::{Fault, Refusal};
 use crate::name::{is_name, is_name_octet};
 use crate::param::{Param, Params, fault_of};
 use crate::pieces::{Pieces, split_mark, split_outside};
 
-/// A content line, unfolded, without its line break. It borrows its text; its parts are found once, when it is made.
+/// A content line, unfolded, without its line break, and its number. It borrows its text; its parts are found once, when it is made.
 #[derive(Clone, Copy)]
 pub struct Line<'a> {
     text: &'a str,
+    /// Its number among the logical lines of its octets, from 1; 0 of a line by itself.
+    number: usize,
     /// What comes before the parameters and the colon.
     name: &'a str,
     /// What is between the name's semicolon and the colon; None where the name has no semicolon.
@@ -28,7 +30,8 @@ pub struct Line<'a> {
 }
 
 impl<'a> Line<'a> {
-    ghost use Rattle.std.specs.Prelude.{◌≡◌, true, false, map, option_map, MatchOption, IfSome, IsTrue};
+    ghost use Rattle.std.specs.Prelude.{◌≡◌, true, false, map, option_map, MatchOption, MatchResult, Ok, IfSome, IsTrue};
+    ghost use Rattle.ical_lines.specs.Fault.{IsPlacedAt, IsFaultAt};
     ghost use Rattle.profile.specs.text.Lines.{line_name, line_value, line_params, line_param, is_same_name, is_faulty, lacks_colon, line_has};
     ghost use Rattle.profile.specs.faults.Faults.{is_line_fault};
     ghost use Rattle.profile.specs.faults.First.{least_fault};
@@ -43,18 +46,20 @@ impl<'a> Line<'a> {
         if text.as_bytes().contains(&b'\n') {
             return None;
         }
-        Some(Line::of(text))
+        Some(Line::of(text, 0))
     }
 
-    /// The line of a text that holds no line break.
-    pub(crate) fn of(text: &'a str) -> Line<'a>
+    /// The line of a text that holds no line break, of this number.
+    pub(crate) fn of(text: &'a str, number: usize) -> Line<'a>
         requires { is_one_line text.now ≡ true }
-        ensures { line_text result ≡ text.now }
+        ensures text { line_text result ≡ text.now }
+        ensures number { result.number ≡ number }
     {
         let (name, rest) = split_mark(text);
         if let Some(value) = rest.strip_prefix(':') {
             return Line {
                 text,
+                number,
                 name,
                 params: None,
                 value: Some(value),
@@ -64,24 +69,27 @@ impl<'a> Line<'a> {
             let (params, value) = split_outside(after, b':');
             return Line {
                 text,
+                number,
                 name,
                 params: Some(params),
                 value,
             };
         }
-        Line::with_quoted_name(text)
+        Line::with_quoted_name(text, number)
     }
 
     /// The line of a text whose first mark is a quote, or that has none.
     #[inline(never)]
-    fn with_quoted_name(text: &'a str) -> Line<'a>
+    fn with_quoted_name(text: &'a str, number: usize) -> Line<'a>
         requires { is_one_line text.now ≡ true }
-        ensures { line_text result ≡ text.now }
+        ensures text { line_text result ≡ text.now }
+        ensures number { result.number ≡ number }
     {
         let (head, value) = split_outside(text, b':');
         let (name, params) = split_outside(head, b';');
         Line {
             text,
+            number,
             name,
             params,
             value,
@@ -94,6 +102,33 @@ impl<'a> Line<'a> {
         ensures one_line { is_one_line result.now ≡ true }
     {
         self.text
+    }
+
+    /// Its number among the logical lines of its octets, from 1; 0 of a line by itself.
+    pub fn number(&self) -> usize
+        ensures { result ≡ self.now.number }
+    {
+        self.number
+    }
+
+    /// What was read of the line; a refusal is at this line.
+    pub fn placed<T>(&self, read: Result<T, Refusal>) -> Result<T, Refusal>
+        ensures { MatchResult result (λ value. read ≡ Ok value) (IsPlacedAt self.now.number read) }
+    {
+        match read {
+            Ok(value) => Ok(value),
+            Err(refusal) => Err(refusal.at(self.number)),
+        }
+    }
+
+    /// What was read of the line with memory; a refusal is at this line.
+    pub fn placed_fault<T>(&self, read: Result<T, Fault>) -> Result<T, Fault>
+        ensures { MatchResult result (λ value. read ≡ Ok value) (IsFaultAt self.now.number read) }
+    {
+        match read {
+            Ok(value) => Ok(value),
+            Err(fault) => Err(fault.at(self.number)),
+        }
     }
 
     /// The name of the property, in the case in which it is written.
@@ -154,7 +189,7 @@ impl<'a> Line<'a> {
         ensures refuses { IfSome result (λ refusal. IsTrue (is_line_fault refusal.number)) }
     {
         if !is_plain(text.as_bytes()) {
-            return Line::of(text).fault();
+            return Line::of(text, 0).fault();
         }
         if has_control(text.as_bytes()) {
             return Some(Refusal::CONTROL);

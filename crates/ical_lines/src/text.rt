@@ -8,6 +8,7 @@ ghost use Rattle.std.specs.Prelude.{
   ◌&&◌,
   ◌||◌,
   ◌==◌,
+  ◌+◌,
   ◌<◌,
   ◌^◌,
   nat_lt,
@@ -21,7 +22,7 @@ ghost use Rattle.std.specs.Prelude.{
 };
 ghost use Rattle.std.specs.List.{list_any};
 ghost use Rattle.profile.specs.faults.Faults.{is_line_fault};
-ghost use Rattle.profile.specs.faults.First.{lines_fault, is_number};
+ghost use Rattle.profile.specs.faults.First.{lines_fault, lines_place, is_number};
 ghost use Rattle.profile.specs.text.Lines.{is_faulty, is_filled, line_has, without_return};
 ghost use Rattle.ical_lines.specs.Breaks.{is_one_line, lines_of};
 ghost use Rattle.ical_lines.specs.Limits.{is_bounded};
@@ -54,9 +55,9 @@ impl<'a> Model for Unfolded<'a> {
 impl<'a> Unfolded<'a> {
     ghost use Rattle.std.specs.Prelude.{◌≡◌, true, IfOk, OnOk, IfErr};
     ghost use Rattle.profile.specs.faults.Faults.{is_line_fault};
-    ghost use Rattle.profile.specs.faults.First.{text_fault, is_number};
+    ghost use Rattle.profile.specs.faults.First.{text_fault, text_place, is_number};
     ghost use Rattle.profile.specs.text.Lines.{logical_lines, text_has, reads_as_lines};
-    ghost use Rattle.ical_lines.specs.Fault.{RefusesOnly};
+    ghost use Rattle.ical_lines.specs.Fault.{RefusesOnly, RefusesAt};
     ghost use Rattle.ical_lines.specs.Limits.{is_bounded};
     ghost use Rattle.ical_lines.specs.Text.{lines_left};
 
@@ -70,6 +71,7 @@ impl<'a> Unfolded<'a> {
         ensures refuses { IfErr result (RefusesOnly is_line_fault) }
         ensures fault { IfErr result (RefusesOnly (λ n. text_has (is_bounded limits) n bytes.now)) }
         ensures first { IfErr result (RefusesOnly (is_number (text_fault (is_bounded limits) bytes.now))) }
+        ensures at { IfErr result (RefusesAt (λ line. line ≡ text_place (is_bounded limits) bytes.now)) }
     {
         if limits.exceeds_octets(bytes.len()) {
             return Err(Fault::Refused(Refusal::TOO_LONG));
@@ -81,10 +83,11 @@ impl<'a> Unfolded<'a> {
 
     /// The lines, in order. It takes no memory.
     pub fn lines(&self) -> Lines<'_>
-        ensures { lines_left result ≡ self.now }
+        ensures { (lines_left result ≡ self.now) × (result.passed ≡ 0) }
     {
         Lines {
             rest: self.text.as_str(),
+            passed: 0,
         }
     }
 }
@@ -93,21 +96,23 @@ impl<'a> Unfolded<'a> {
 fn check_lines(text: &str, limits: Limits) -> Result<(), Refusal>
     ensures refuses { IfErr result (λ r. IsTrue (is_line_fault r.number)) }
     ensures first { IfErr result (λ r. IsTrue (is_number (lines_fault (is_bounded limits) (lines_of text.now)) r.number)) }
+    ensures at { IfErr result (λ r. r.line ≡ lines_place (is_bounded limits) (lines_of text.now)) }
     ensures fault { MatchResult result
         (λ _. (list_any is_faulty (lines_of text.now) ≡ false)
         × ((is_bounded limits && nat_lt 65536 (length (lines_of text.now))) ≡ false))
         (λ r. IsTrue (list_any (line_has r.number) (lines_of text.now)
         || (r.number == 6 && (is_bounded limits && nat_lt 65536 (length (lines_of text.now)))))) }
 {
-    let mut lines = Lines { rest: text };
-    let mut count = 0usize;
+    let mut lines = Lines {
+        rest: text,
+        passed: 0,
+    };
     while let Some(line) = lines.next_text() {
-        count += 1;
-        if limits.exceeds_lines(count) {
-            return Err(Refusal::TOO_LONG);
+        if limits.exceeds_lines(lines.passed) {
+            return Err(Refusal::TOO_LONG.at(lines.passed));
         }
         if let Some(refusal) = Line::fault_in(line) {
-            return Err(refusal);
+            return Err(refusal.at(lines.passed));
         }
     }
     Ok(())
@@ -117,20 +122,25 @@ fn check_lines(text: &str, limits: Limits) -> Result<(), Refusal>
 #[derive(Clone, Copy)]
 pub struct Lines<'a> {
     rest: &'a str,
+    /// How many lines came before.
+    passed: usize,
     // a text in memory: a number of its lines fits `usize`
-    ghost is_in_memory: { length rest.now < 2 ^ 63 },
+    ghost is_in_memory: { length rest.now + passed < 2 ^ 63 },
 }
 
 impl<'a> Lines<'a> {
-    ghost use Rattle.std.specs.Prelude.{◌≡◌, ◌∷◌, [], true, MatchOption, IfSome};
+    ghost use Rattle.std.specs.Prelude.{◌≡◌, ◌∷◌, [], ◌+◌, true, MatchOption, IfSome, IfNone};
     ghost use Rattle.ical_lines.specs.Breaks.{is_one_line};
-    ghost use Rattle.ical_lines.specs.Text.{lines_left};
+    ghost use Rattle.ical_lines.specs.Text.{lines_left, line_text};
 
     /// No lines.
     pub fn none() -> Lines<'a>
         ensures { lines_left result ≡ [] }
     {
-        Lines { rest: "" }
+        Lines {
+            rest: "",
+            passed: 0,
+        }
     }
 
     /// The text of the next line, no part of which is looked for. None after the last.
@@ -139,15 +149,39 @@ impl<'a> Lines<'a> {
         ensures next { MatchOption result ((lines_left self.old ≡ []) × (lines_left self.new ≡ []))
             (λ text. lines_left self.old ≡ text.now ∷ lines_left self.new) }
         ensures one_line { IfSome result (λ text. is_one_line text.now ≡ true) }
+        ensures number { IfSome result (λ _. self.new.passed ≡ self.old.passed + 1) }
+        ensures last { IfNone result (self.new.passed ≡ self.old.passed) }
     {
         while !self.rest.is_empty() {
             let (line, rest) = split_line(self.rest);
             self.rest = rest;
             if !line.is_empty() {
+                self.passed += 1;
                 return Some(line);
             }
         }
         None
+    }
+
+    /// The next line with its number. None after the last.
+    #[inline]
+    pub fn next_line(&mut self) -> Option<Line<'a>>
+        ensures next { MatchOption result ((lines_left self.old ≡ []) × (lines_left self.new ≡ []))
+            (λ line. lines_left self.old ≡ line_text line ∷ lines_left self.new) }
+        ensures number { IfSome result (λ line. (self.new.passed ≡ self.old.passed + 1) × (line.number ≡ self.new.passed)) }
+        ensures last { IfNone result (self.new.passed ≡ self.old.passed) }
+    {
+        match self.next_text() {
+            Some(text) => Some(Line::of(text, self.passed)),
+            None => None,
+        }
+    }
+
+    /// How many lines came before: the number of the line that was given last.
+    pub fn passed(&self) -> usize
+        ensures { result ≡ self.now.passed }
+    {
+        self.passed
     }
 }
 
@@ -163,10 +197,7 @@ impl<'a> Iterator for Lines<'a> {
 
     #[inline]
     fn next(&mut self) -> Option<Line<'a>> {
-        match self.next_text() {
-            Some(text) => Some(Line::of(text)),
-            None => None,
-        }
+        self.next_line()
     }
 }
 

@@ -1,9 +1,9 @@
 //! Unfolding (RFC 5545 3.1): octets to a text whose lines are the logical lines.
 //! Physical lines end at LF, and one CR before it isn't part of them; the end of the input ends one too.
 //! A physical line that begins with a space or a tab continues the line before it.
-ghost use Rattle.std.specs.Prelude.{◌≡◌, ◌++◌, ◌<◌, ◌≤◌, ◌^◌, ◌∷◌, drop, take, filter, length, false, if◌then◌else◌, IfOk, IfErr};
+ghost use Rattle.std.specs.Prelude.{◌≡◌, ◌++◌, ◌<◌, ◌≤◌, ◌^◌, ◌∷◌, ◌+◌, drop, take, filter, length, false, if◌then◌else◌, IfOk, IfErr};
 ghost use Rattle.std.specs.Vec.{vec_len};
-ghost use Rattle.std.specs.List.{list_any};
+ghost use Rattle.std.specs.List.{list_any, prefix_len};
 ghost use Rattle.std.specs.Str.{is_utf8};
 ghost use Rattle.profile.specs.text.Lines.{
   without_mark,
@@ -15,7 +15,7 @@ ghost use Rattle.profile.specs.text.Lines.{
   ended,
   is_filled,
 };
-ghost use Rattle.ical_lines.specs.Fault.{RefusesBy};
+ghost use Rattle.ical_lines.specs.Fault.{RefusesBy, RefusesAt};
 ghost use Rattle.ical_lines.specs.Breaks.{lines_of};
 ghost use Rattle.ical_lines.specs.Unfold.{lines_after, with_breaks, broken_if_filled};
 ghost use Rattle.ical_lines.specs.FirstLine.{IsAfterBreak};
@@ -41,16 +41,17 @@ impl<'a> UnfoldedText<'a> {
     pub fn of(alloc: Global, octets: &'a [u8]) -> Result<UnfoldedText<'a>, Fault>
         ensures lines { IfOk result (λ text. lines_of (unfolded_octets text) ≡ logical_lines octets.now) }
         ensures refuses { IfErr result (RefusesBy (λ n. (n ≡ 5) × (is_utf8 (ended (logical_lines octets.now)) ≡ false))) }
+        ensures at { IfErr result (RefusesAt (λ line. line ≡ 1 + prefix_len is_utf8 (logical_lines octets.now))) }
     {
         let unmarked = without_mark(octets);
         if is_folded(unmarked) {
-            let Ok(text) = String::from_utf8(unfold(alloc, unmarked)?) else {
-                return Err(Fault::Refused(Refusal::NOT_UTF8));
+            return match String::from_utf8(unfold(alloc, unmarked)?) {
+                Ok(text) => Ok(UnfoldedText::Owned(text)),
+                Err(error) => Err(Fault::Refused(not_utf8(error.as_bytes()))),
             };
-            return Ok(UnfoldedText::Owned(text));
         }
         let Ok(text) = str::from_utf8(unmarked) else {
-            return Err(Fault::Refused(Refusal::NOT_UTF8));
+            return Err(Fault::Refused(not_utf8(unmarked)));
         };
         Ok(UnfoldedText::Lent(text))
     }
@@ -64,6 +65,25 @@ impl<'a> UnfoldedText<'a> {
             UnfoldedText::Owned(text) => text.as_str(),
         }
     }
+}
+
+/// The refusal of a text that isn't UTF-8, at the first of its lines that isn't.
+fn not_utf8(text: &[u8]) -> Refusal
+    ensures { (result.number ≡ 5) × (result.line ≡ 1 + prefix_len is_utf8 (lines_of text.now)) }
+{
+    let mut passed = 0usize;
+    let mut left = Some(text);
+    while let Some(rest) = left {
+        let (line, next) = split_line(rest);
+        let Ok(text) = str::from_utf8(line) else {
+            return Refusal::NOT_UTF8.at(passed + 1);
+        };
+        if !text.is_empty() {
+            passed += 1;
+        }
+        left = next;
+    }
+    Refusal::NOT_UTF8.at(passed + 1)
 }
 
 /// Whether a physical line continues the one before it.

@@ -4,13 +4,13 @@ use Rattle.std.proofs.lemmas.List.{append_assoc, append-nil, reverse-append, len
 use Rattle.std.proofs.lemmas.Bool.{not-true, false≢true}
 use Rattle.profile.specs.text.Lines.{line_value, is_same_name}
 use Rattle.profile.specs.text.Objects.{Opens, Closes, is_begin, is_none, is_property, is_end, is_calendar_name, may_begin}
-use Rattle.ical_tree.specs.Tree.SpellsParts.{nothing, property, component}
+use Rattle.ical_tree.specs.Reading.NumberedParts.{nothing, property, component}
 use Rattle.ical_tree.specs.declared.component.Component.{Component}
-use Rattle.ical_tree.specs.Tree.{component_name, component_lines, component_children, SpellsParts}
-use Rattle.ical_tree.specs.Reading.{Built, Open, open_of, with_lines, open_names}
+use Rattle.ical_tree.specs.Tree.{component_name, component_begun, component_numbered, component_children}
+use Rattle.ical_tree.specs.Reading.{Built, NumberedParts, Open, open_of, with_lines, open_names}
 
 abbrev Lines : Type 0
-Lines = List (List ℕ)
+Lines = List (ℕ × List ℕ)
 
 -- the open components, from the innermost on, without the lines of the run
 abbrev pub opens : List Component → List Open
@@ -23,7 +23,7 @@ opens-length : (xs : List Component) → length (opens xs) ≡ length xs
 opens-length xs = length-map (reverse xs) open_of ∙ length-reverse xs
 
 abbrev with_own : Lines → Open → Open
-with_own own c = record { name = c.name; own = own; inside = c.inside }
+with_own own c = record { name = c.name; begun = c.begun; own = own; inside = c.inside }
 
 pub with_none : (cs : List Open) (run : Lines) → run ≡ [] → with_lines run cs ≡ cs
 with_none [] run e = refl
@@ -41,12 +41,12 @@ outermost None false h = cc
 outermost (Some c) true h = cc
 outermost (Some c) false h = cc
 
-begun_in : (around : List Open) (c : Component) (closed : Option Component) (done : Lines) (line : List ℕ) → Opens line (component_name c) → component_lines c ≡ [] → component_children c ≡ [] → may_begin (open_names around) (is_some closed) (component_name c) ≡ true → length around ≤ 7 → Built around closed done → Built (open_of c ∷ around) closed (done ++ line ∷ [])
+begun_in : (around : List Open) (c : Component) (closed : Option Component) (done : Lines) (line : List ℕ) → Opens line (component_name c) → component_numbered c ≡ [] → component_children c ≡ [] → may_begin (open_names around) (is_some closed) (component_name c) ≡ true → length around ≤ 7 → Built around closed done → Built (open_of c ∷ around) closed (done ++ (component_begun c, line) ∷ [])
 begun_in around c closed done line o l k h n b =
-    let empty : SpellsParts (7 - length around) (component_lines c) (component_children c) [] = rw (l, k) nothing in
+    let empty : NumberedParts (7 - length around) (component_numbered c) (component_children c) [] = rw (l, k) nothing in
     (done, record { begin = line; body = []; are = refl; opens = o; holds = empty }, b, n, h)
 
-pub begun : (items : List Component) (run : Lines) (c : Component) (closed : Option Component) (done : Lines) (line : List ℕ) → run ≡ [] → Opens line (component_name c) → component_lines c ≡ [] → component_children c ≡ [] → may_begin (open_names (with_lines run (opens items))) (is_some closed) (component_name c) ≡ true → length items ≤ 7 → Built (with_lines run (opens items)) closed done → Built (with_lines run (opens (items ++ c ∷ []))) closed (done ++ line ∷ [])
+pub begun : (items : List Component) (run : Lines) (c : Component) (closed : Option Component) (done : Lines) (line : List ℕ) → run ≡ [] → Opens line (component_name c) → component_numbered c ≡ [] → component_children c ≡ [] → may_begin (open_names (with_lines run (opens items))) (is_some closed) (component_name c) ≡ true → length items ≤ 7 → Built (with_lines run (opens items)) closed done → Built (with_lines run (opens (items ++ c ∷ []))) closed (done ++ (component_begun c, line) ∷ [])
 begun items run c closed done line e o l k h n b =
     let old : with_lines run (opens items) ≡ opens items = with_none (opens items) run e in
     let new : with_lines run (opens (items ++ c ∷ [])) ≡ open_of c ∷ opens items = with_none (opens (items ++ c ∷ [])) run e ∙ opens-push items c in
@@ -55,7 +55,7 @@ begun items run c closed done line e o l k h n b =
 
 -- ---- a property
 
-pub added : (cs : List Open) (run more : Lines) (closed : Option Component) (done : Lines) (line : List ℕ) → 0 < length cs → more ≡ run ++ line ∷ [] → is_property line ≡ true → Built (with_lines run cs) closed done → Built (with_lines more cs) closed (done ++ line ∷ [])
+pub added : (cs : List Open) (run more : Lines) (closed : Option Component) (done : Lines) (line : ℕ × List ℕ) → 0 < length cs → more ≡ run ++ line ∷ [] → is_property line.1 ≡ true → Built (with_lines run cs) closed done → Built (with_lines more cs) closed (done ++ line ∷ [])
 added [] run more closed done line l e p b = absurd (omega arith)
 added (c ∷ around) run more closed done line l e p h =
     let own : (c.own ++ run) ++ line ∷ [] ≡ c.own ++ more = append_assoc c.own run (line ∷ []) ∙ ap (λ z. c.own ++ z) (sym e) in (
@@ -63,9 +63,9 @@ added (c ∷ around) run more closed done line l e p h =
       record {
         begin = h.1.begin;
         body = h.1.body ++ line ∷ [];
-        are = ap (λ z. z ++ line ∷ []) h.1.are ∙ append_assoc h.0 (h.1.begin ∷ h.1.body) (line ∷ []);
+        are = ap (λ z. z ++ line ∷ []) h.1.are ∙ append_assoc h.0 ((c.begun, h.1.begin) ∷ h.1.body) (line ∷ []);
         opens = h.1.opens;
-        holds = subst (λ (ls : Lines). SpellsParts (7 - length around) ls c.inside (h.1.body ++ line ∷ [])) own (property line p h.1.holds);
+        holds = subst (λ (ls : Lines). NumberedParts (7 - length around) ls c.inside (h.1.body ++ line ∷ [])) own (property line p h.1.holds);
       },
       h.2,
       h.3,
@@ -74,18 +74,18 @@ added (c ∷ around) run more closed done line l e p h =
 
 -- ---- END
 
-ended_in : (around : List Open) (p q c : Component) (closed : Option Component) (done : Lines) (line : List ℕ) → is_end line ≡ true → is_same_name (component_name c) (line_value line) ≡ true → component_name q ≡ component_name p → component_lines q ≡ component_lines p → component_children q ≡ component_children p ++ c ∷ [] → Built (open_of c ∷ open_of p ∷ around) closed done → Built (open_of q ∷ around) closed (done ++ line ∷ [])
-ended_in around p q c closed done line e s n l k h =
+ended_in : (around : List Open) (p q c : Component) (closed : Option Component) (done : Lines) (line : ℕ × List ℕ) → is_end line.1 ≡ true → is_same_name (component_name c) (line_value line.1) ≡ true → component_name q ≡ component_name p → component_begun q ≡ component_begun p → component_numbered q ≡ component_numbered p → component_children q ≡ component_children p ++ c ∷ [] → Built (open_of c ∷ open_of p ∷ around) closed done → Built (open_of q ∷ around) closed (done ++ line ∷ [])
+ended_in around p q c closed done line e s n m l k h =
     let g = h.2 in
     let deep : 7 - length around ≡ suc (7 - length (open_of p ∷ around)) = omega (arith, h.3) in
-    let outer : SpellsParts (suc (7 - length (open_of p ∷ around))) (component_lines p) (component_children p) g.1.body = subst (λ d. SpellsParts d (component_lines p) (component_children p) g.1.body) deep g.1.holds in
-    let closes : Closes line (component_name c) = record { ends = e; names = s } in
-    let all : done ++ line ∷ [] ≡ g.0 ++ g.1.begin ∷ (g.1.body ++ h.1.begin ∷ (h.1.body ++ line ∷ [])) = ap (λ z. z ++ line ∷ []) (h.1.are ∙ ap (λ z. z ++ h.1.begin ∷ h.1.body) g.1.are) ∙ (append_assoc (g.0 ++ g.1.begin ∷ g.1.body) (h.1.begin ∷ h.1.body) (line ∷ []) ∙ append_assoc g.0 (g.1.begin ∷ g.1.body) (h.1.begin ∷ (h.1.body ++ line ∷ []))) in (
+    let outer : NumberedParts (suc (7 - length (open_of p ∷ around))) (component_numbered p) (component_children p) g.1.body = subst (λ d. NumberedParts d (component_numbered p) (component_children p) g.1.body) deep g.1.holds in
+    let closes : Closes line.1 (component_name c) = record { ends = e; names = s } in
+    let all : done ++ line ∷ [] ≡ g.0 ++ (component_begun p, g.1.begin) ∷ (g.1.body ++ (component_begun c, h.1.begin) ∷ (h.1.body ++ line ∷ [])) = ap (λ z. z ++ line ∷ []) (h.1.are ∙ ap (λ z. z ++ (component_begun c, h.1.begin) ∷ h.1.body) g.1.are) ∙ (append_assoc (g.0 ++ (component_begun p, g.1.begin) ∷ g.1.body) ((component_begun c, h.1.begin) ∷ h.1.body) (line ∷ []) ∙ append_assoc g.0 ((component_begun p, g.1.begin) ∷ g.1.body) ((component_begun c, h.1.begin) ∷ (h.1.body ++ line ∷ []))) in (
       g.0,
       record {
         begin = g.1.begin;
-        body = g.1.body ++ h.1.begin ∷ (h.1.body ++ line ∷ []);
-        are = all;
+        body = g.1.body ++ (component_begun c, h.1.begin) ∷ (h.1.body ++ line ∷ []);
+        are = rw m all;
         opens = rw n g.1.opens;
         holds = rw (deep, l, k) (component c h.1.begin line h.1.body (not-true (is_calendar_name (component_name c)) h.4) h.1.opens closes h.1.holds outer);
       },
@@ -94,13 +94,13 @@ ended_in around p q c closed done line e s n l k h =
       rw n g.4,
     )
 
-pub ended_child : (items : List Component) (run : Lines) (p q c : Component) (closed : Option Component) (done : Lines) (line : List ℕ) → run ≡ [] → is_end line ≡ true → is_same_name (component_name c) (line_value line) ≡ true → component_name q ≡ component_name p → component_lines q ≡ component_lines p → component_children q ≡ component_children p ++ c ∷ [] → Built (with_lines run (opens ((items ++ p ∷ []) ++ c ∷ []))) closed done → Built (with_lines run (opens (items ++ q ∷ []))) closed (done ++ line ∷ [])
-ended_child items run p q c closed done line r e s n l k b =
+pub ended_child : (items : List Component) (run : Lines) (p q c : Component) (closed : Option Component) (done : Lines) (line : ℕ × List ℕ) → run ≡ [] → is_end line.1 ≡ true → is_same_name (component_name c) (line_value line.1) ≡ true → component_name q ≡ component_name p → component_begun q ≡ component_begun p → component_numbered q ≡ component_numbered p → component_children q ≡ component_children p ++ c ∷ [] → Built (with_lines run (opens ((items ++ p ∷ []) ++ c ∷ []))) closed done → Built (with_lines run (opens (items ++ q ∷ []))) closed (done ++ line ∷ [])
+ended_child items run p q c closed done line r e s n m l k b =
     let old : with_lines run (opens ((items ++ p ∷ []) ++ c ∷ [])) ≡ open_of c ∷ open_of p ∷ opens items = with_none (opens ((items ++ p ∷ []) ++ c ∷ [])) run r ∙ (opens-push (items ++ p ∷ []) c ∙ ap (λ z. open_of c ∷ z) (opens-push items p)) in
     let new : with_lines run (opens (items ++ q ∷ [])) ≡ open_of q ∷ opens items = with_none (opens (items ++ q ∷ [])) run r ∙ opens-push items q in
-    rw new (ended_in (opens items) p q c closed done line e s n l k (subst (λ cs. Built cs closed done) old b))
+    rw new (ended_in (opens items) p q c closed done line e s n m l k (subst (λ cs. Built cs closed done) old b))
 
-ended_last : (c : Component) (closed : Option Component) (done : Lines) (line : List ℕ) → is_end line ≡ true → is_same_name (component_name c) (line_value line) ≡ true → Built (open_of c ∷ []) closed done → Built [] (Some c) (done ++ line ∷ [])
+ended_last : (c : Component) (closed : Option Component) (done : Lines) (line : ℕ × List ℕ) → is_end line.1 ≡ true → is_same_name (component_name c) (line_value line.1) ≡ true → Built (open_of c ∷ []) closed done → Built [] (Some c) (done ++ line ∷ [])
 ended_last c closed done line e s h =
     let outer = outermost closed (is_calendar_name (component_name c)) h.4 in
     let none : h.0 ≡ [] = subst (λ o. Built [] o h.0) outer.0 h.2 in (
@@ -108,7 +108,7 @@ ended_last c closed done line e s h =
         begin = h.1.begin;
         end = line;
         body = h.1.body;
-        are = ap (λ z. z ++ line ∷ []) (h.1.are ∙ ap (λ z. z ++ h.1.begin ∷ h.1.body) none);
+        are = ap (λ z. z ++ line ∷ []) (h.1.are ∙ ap (λ z. z ++ (component_begun c, h.1.begin) ∷ h.1.body) none);
         opens = h.1.opens;
         closes = record { ends = e; names = s };
         holds = h.1.holds;
@@ -116,7 +116,7 @@ ended_last c closed done line e s h =
       outer.1,
     )
 
-pub ended_only : (old rest after : List Component) (run : Lines) (c : Component) (closed : Option Component) (done : Lines) (line : List ℕ) → run ≡ [] → is_end line ≡ true → is_same_name (component_name c) (line_value line) ≡ true → old ≡ rest ++ c ∷ [] → length rest ≡ 0 → length after ≡ 0 → Built (with_lines run (opens old)) closed done → Built (with_lines run (opens after)) (Some c) (done ++ line ∷ [])
+pub ended_only : (old rest after : List Component) (run : Lines) (c : Component) (closed : Option Component) (done : Lines) (line : ℕ × List ℕ) → run ≡ [] → is_end line.1 ≡ true → is_same_name (component_name c) (line_value line.1) ≡ true → old ≡ rest ++ c ∷ [] → length rest ≡ 0 → length after ≡ 0 → Built (with_lines run (opens old)) closed done → Built (with_lines run (opens after)) (Some c) (done ++ line ∷ [])
 ended_only old rest after run c closed done line r e s p l a b =
     let bare : old ≡ c ∷ [] = p ∙ ap (λ z. z ++ c ∷ []) (nil_from_length rest l) in
     let only : with_lines run (opens old) ≡ open_of c ∷ [] = with_none (opens old) run r ∙ ap opens bare in

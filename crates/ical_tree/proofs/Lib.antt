@@ -1,4 +1,5 @@
 mod Samples
+pub mod NumberLemmas
 pub mod BuiltLemmas
 pub mod RefusalLemmas
 pub mod WriteLemmas
@@ -6,8 +7,11 @@ pub mod PairLemmas
 pub mod OneTree
 pub mod ReadsBackLemmas
 pub mod TreeOfLemmas
+pub mod InsideLemmas
+pub mod PlacedLemmas
 pub mod SameTrees
 pub mod OneLine
+pub mod OwnLemmas
 pub mod PropertyLemmas
 mod RunLemmas
 mod FirstOctet

@@ -1,3 +1,4 @@
+pub mod Own
 pub mod Reading
 pub mod ReadsBack
 pub mod Runs

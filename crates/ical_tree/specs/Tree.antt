@@ -1,10 +1,13 @@
 -- What callers see of a component.
-use Rattle.std.specs.Prelude.{◌≡◌, ℕ, suc, Bool, true, false, ◌&&◌, nat_lt, List, [], ◌∷◌, ◌++◌, count_by, codes}
+use Rattle.std.specs.Prelude.{◌≡◌, Contains, ℕ, suc, Bool, true, false, ◌&&◌, nat_lt, List, [], ◌∷◌, ◌++◌, count_by, filter, map, codes}
 use Rattle.std.specs.List.{flat_map}
+use Rattle.profile.specs.faults.Blame.{IsAt, Numbered}
+use Rattle.profile.specs.series.ZoneBlame.{NumberedZone}
 use Rattle.profile.specs.text.Lines.{folded, is_same_name}
 use Rattle.profile.specs.text.Objects.{is_property, is_calendar_name, has_version, most_events, Opens, Closes}
 use Rattle.profile.specs.text.Trees.{Tree, Trees, tree, none, more}
-use Rattle.ical_tree.specs.Runs.{run_lines}
+use Rattle.ical_tree.specs.Runs.{run_lines, run_numbered}
+use Rattle.ical_tree.specs.declared.own_lines.Run.{Run}
 use Rattle.ical_tree.specs.declared.component.Component.{Component, out-Component}
 use Rattle.ical_tree.specs.declared.component.Component.TheOpen.{Component-F}
 use Rattle.ical_tree.specs.declared.component.Component.TheFolds.{fold-Component}
@@ -13,13 +16,52 @@ use Rattle.ical_tree.specs.declared.component.Component.TheFolds.{fold-Component
 abbrev pub component_name : Component → List ℕ
 component_name c = (out-Component c).name.now
 
+-- the number of its BEGIN among the logical lines of its octets
+abbrev pub component_begun : Component → ℕ
+component_begun c = (out-Component c).begun
+
+abbrev pub component_runs : Component → List Run
+component_runs c = (out-Component c).runs.items
+
 -- the component's own lines without BEGIN and END
 abbrev pub component_lines : Component → List (List ℕ)
-component_lines c = flat_map run_lines (out-Component c).runs.items
+component_lines c = flat_map run_lines (component_runs c)
+
+-- they with their numbers among the logical lines of its octets
+abbrev pub component_numbered : Component → List (ℕ × List ℕ)
+component_numbered c = flat_map run_numbered (component_runs c)
+
+abbrev pub numbered_of : Component → Numbered
+numbered_of c = record { begun = component_begun c; lines = component_numbered c }
 
 -- the components directly inside
 abbrev pub component_children : Component → List Component
 component_children c = (out-Component c).children.items
+
+-- a VTIMEZONE with its parts
+abbrev pub zone_of_component : Component → NumberedZone
+zone_of_component c = record { whole = numbered_of c; parts = map numbered_of (component_children c) }
+
+-- the components directly inside of this name
+abbrev pub children_named : List ℕ → Component → List Component
+children_named name c = filter (λ part. is_same_name (component_name part) name) (component_children c)
+
+-- the VTIMEZONEs of an object, and its VEVENTs
+abbrev pub zones_in : Component → List NumberedZone
+zones_in object = map zone_of_component (children_named (codes "VTIMEZONE") object)
+
+abbrev pub events_in : Component → List Numbered
+events_in object = map numbered_of (children_named (codes "VEVENT") object)
+
+-- the numbers of the BEGINs of its VEVENTs
+abbrev pub events_begun_in : Component → List ℕ
+events_begun_in object = map component_begun (children_named (codes "VEVENT") object)
+
+-- the component was read from these lines with their numbers: its BEGIN, its own lines, and each component inside it
+pub data ArePlaced (lines : List (ℕ × List ℕ)) : Component → Type 0 where
+  placed : (c : Component) → IsAt lines (component_begun c) (λ line. Opens line (component_name c))
+      → ((line : ℕ × List ℕ) → Contains (component_numbered c) line → Contains lines line)
+      → ((part : Component) → Contains (component_children c) part → ArePlaced lines part) → ArePlaced lines c
 
 -- ---- what lines spell, said of components as the code has them: what they spell so they spell as trees
 

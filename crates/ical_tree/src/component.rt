@@ -8,25 +8,29 @@ use std::alloc::{AllocError, Global};
 #[derive(Drop)]
 pub struct Component<'a> {
     name: &'a str,
+    /// The number of its BEGIN among the logical lines of its octets.
+    begun: usize,
     runs: Vec<Run<'a>>,
     children: Vec<Component<'a>>,
 }
 
 impl<'a> Component<'a> {
     ghost use Rattle.std.specs.Prelude.{◌≡◌, ◌++◌, ◌∷◌, [], OnOk, OnErr};
-    ghost use Rattle.std.specs.List.{flat_map};
     ghost use Rattle.profile.specs.text.Lines.{is_same_name};
-    ghost use Rattle.ical_tree.specs.Runs.{run_lines, lines_left};
-    ghost use Rattle.ical_tree.specs.Tree.{component_name, component_lines, component_children};
+    ghost use Rattle.ical_tree.specs.Runs.{run_numbered, lines_left};
+    ghost use Rattle.ical_tree.specs.Tree.{component_name, component_begun, component_runs, component_lines, component_numbered, component_children};
 
-    /// A component of this name with no lines and no children.
-    pub(crate) fn new(alloc: Global, name: &'a str) -> Component<'a>
+    /// A component of this name, whose BEGIN has this number, with no lines and no children.
+    pub(crate) fn new(alloc: Global, name: &'a str, begun: usize) -> Component<'a>
         ensures name { component_name result ≡ name.now }
-        ensures lines { component_lines result ≡ [] }
+        ensures begun { component_begun result ≡ begun }
+        ensures runs { component_runs result ≡ [] }
+        ensures lines { component_numbered result ≡ [] }
         ensures children { component_children result ≡ [] }
     {
         Component {
             name,
+            begun,
             runs: Vec::new(alloc),
             children: Vec::new(alloc),
         }
@@ -46,6 +50,13 @@ impl<'a> Component<'a> {
         self.name.eq_ignore_ascii_case(name)
     }
 
+    /// The number of its BEGIN among the logical lines of the octets that it was read from, from 1.
+    pub fn begun(&self) -> usize
+        ensures { result ≡ component_begun self.now }
+    {
+        self.begun
+    }
+
     /// The component's own lines without BEGIN and END, in order. It takes no memory.
     pub fn lines(&self) -> OwnLines<'_>
         ensures { lines_left result ≡ component_lines self.now }
@@ -55,7 +66,7 @@ impl<'a> Component<'a> {
 
     /// The runs that those lines are in, in order.
     pub(crate) fn runs(&self) -> &[Run<'a>]
-        ensures { flat_map run_lines result.now ≡ component_lines self.now }
+        ensures { result.now ≡ component_runs self.now }
     {
         self.runs.as_slice()
     }
@@ -70,9 +81,11 @@ impl<'a> Component<'a> {
     /// Adds lines of the component's own at the end. Where memory is refused nothing has changed.
     pub(crate) fn push_run(&mut self, run: Run<'a>) -> Result<(), AllocError>
         ensures name { component_name self.new ≡ component_name self.old }
+        ensures begun { component_begun self.new ≡ component_begun self.old }
         ensures children { component_children self.new ≡ component_children self.old }
-        ensures added { OnOk result (component_lines self.new ≡ component_lines self.old ++ run_lines run.entry) }
-        ensures unchanged { OnErr result (component_lines self.new ≡ component_lines self.old) }
+        ensures runs { OnOk result (component_runs self.new ≡ component_runs self.old ++ run.entry ∷ []) }
+        ensures added { OnOk result (component_numbered self.new ≡ component_numbered self.old ++ run_numbered run.entry) }
+        ensures unchanged { OnErr result (component_numbered self.new ≡ component_numbered self.old) }
     {
         if self.runs.is_empty() {
             // nearly every component has only one run: no room for more
@@ -85,7 +98,9 @@ impl<'a> Component<'a> {
     /// Adds a component inside at the end. Where memory is refused nothing has changed.
     pub(crate) fn push_child(&mut self, child: Component<'a>) -> Result<(), AllocError>
         ensures name { component_name self.new ≡ component_name self.old }
-        ensures lines { component_lines self.new ≡ component_lines self.old }
+        ensures begun { component_begun self.new ≡ component_begun self.old }
+        ensures runs { component_runs self.new ≡ component_runs self.old }
+        ensures lines { component_numbered self.new ≡ component_numbered self.old }
         ensures added { OnOk result (component_children self.new ≡ component_children self.old ++ child.entry ∷ []) }
         ensures unchanged { OnErr result (component_children self.new ≡ component_children self.old) }
     {

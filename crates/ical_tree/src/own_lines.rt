@@ -13,20 +13,21 @@ pub(crate) struct Run<'a> {
 
 impl<'a> Run<'a> {
     ghost use Rattle.std.specs.Prelude.{ℕ, List, ◌≡◌, ◌++◌, ◌∷◌, [], ◌<◌, length, drop, MatchOption, true};
-    ghost use Rattle.ical_lines.specs.Text.{line_text, lines_left};
-    ghost use Rattle.ical_tree.specs.Runs.{run_lines, lines_after_run};
+    ghost use Rattle.ical_lines.specs.Text.{line_text, numbered, numbered_left};
+    ghost use Rattle.ical_tree.specs.Runs.{run_lines, run_numbered, lines_after_run};
 
     /// No lines yet, but these may follow.
     pub(crate) fn empty(from: Lines<'a>) -> Run<'a>
         ensures lines { run_lines result ≡ [] }
-        ensures after { lines_after_run result ≡ lines_left from.entry }
+        ensures numbered { run_numbered result ≡ [] }
+        ensures after { lines_after_run result ≡ numbered_left from.entry }
     {
         Run { from, count: 0 }
     }
 
     /// Whether it has no line.
     pub(crate) fn is_empty(&self) -> bool
-        ensures { result ≡ true → run_lines self.now ≡ [] }
+        ensures { result ≡ true → run_numbered self.now ≡ [] }
     {
         self.count == 0
     }
@@ -34,8 +35,8 @@ impl<'a> Run<'a> {
     /// Takes the next line of the text in.
     pub(crate) fn grow(&mut self)
         requires { 0 < length (lines_after_run self.old) }
-        ensures lines { (line : List ℕ) (rest : List (List ℕ)) → lines_after_run self.old ≡ line ∷ rest
-            → run_lines self.new ≡ run_lines self.old ++ line ∷ [] }
+        ensures lines { (line : ℕ × List ℕ) (rest : List (ℕ × List ℕ)) → lines_after_run self.old ≡ line ∷ rest
+            → run_numbered self.new ≡ run_numbered self.old ++ line ∷ [] }
         ensures after { lines_after_run self.new ≡ drop 1 (lines_after_run self.old) }
     {
         self.count += 1;
@@ -43,13 +44,15 @@ impl<'a> Run<'a> {
 
     /// The first line of the run, which is then without it.
     pub(crate) fn take_first(&mut self) -> Option<Line<'a>>
-        ensures { MatchOption result ((run_lines self.old ≡ []) × (run_lines self.new ≡ []))
+        ensures lines { MatchOption result ((run_lines self.old ≡ []) × (run_lines self.new ≡ []))
             (λ line. run_lines self.old ≡ line_text line ∷ run_lines self.new) }
+        ensures numbered { MatchOption result ((run_numbered self.old ≡ []) × (run_numbered self.new ≡ []))
+            (λ line. run_numbered self.old ≡ numbered line ∷ run_numbered self.new) }
     {
         if self.count == 0 {
             return None;
         }
-        let line = self.from.next()?;
+        let line = self.from.next_line()?;
         self.count -= 1;
         Some(line)
     }

@@ -14,6 +14,7 @@ ghost use Rattle.std.specs.Prelude.{
   None,
   ℕ,
   List,
+  Bool,
   codes,
   length,
   ◌<◌,
@@ -22,19 +23,25 @@ ghost use Rattle.std.specs.Prelude.{
   false,
   IfErr,
   IfOk,
+  if◌then◌else◌,
+  option_map,
+  slice_get,
   OnOk,
   IsTrue,
 };
+ghost use Rattle.std.specs.List.{enumerate_from};
 ghost use Rattle.profile.specs.faults.Faults.{is_object_fault};
 ghost use Rattle.profile.specs.text.Lines.{line_value};
+ghost use Rattle.profile.specs.text.ObjectBlame.{CalendarBlame, ObjectBlame};
 ghost use Rattle.profile.specs.text.Objects.{is_end, is_property, is_calendar_name, has_version, may_begin, Opens, is_none, now_open, misplaced, misplaced_begin, misplaced_end, misplaced_property};
 ghost use Rattle.ical_lines.specs.Breaks.{is_one_line};
-ghost use Rattle.ical_lines.specs.Fault.{RefusesOnly, RefusesBy};
+ghost use Rattle.ical_lines.specs.Fault.{RefusesOnly, RefusesBy, RefusesWhere};
 ghost use Rattle.ical_lines.specs.Limits.{is_bounded};
-ghost use Rattle.ical_lines.specs.Text.{line_text, lines_left};
-ghost use Rattle.ical_tree.specs.Runs.{lines_after_run, run_lines};
-ghost use Rattle.ical_tree.specs.Tree.{IsObjectOf, component_lines, count_children};
-ghost use Rattle.ical_tree.specs.Reading.{Built, SpellsOf, IsCalendar, TreeHas, calendar_has, may_pair, open_names, open_view};
+ghost use Rattle.ical_lines.specs.Text.{line_text, numbered_left};
+ghost use Rattle.ical_tree.specs.Runs.{lines_after_run, run_numbered};
+ghost use Rattle.ical_tree.specs.Own.{own_lines, own_numbered, numbered_own};
+ghost use Rattle.ical_tree.specs.Tree.{ArePlaced, IsObjectOf, component_begun, component_lines, component_numbered, count_children, children_named, events_begun_in};
+ghost use Rattle.ical_tree.specs.Reading.{Built, IsCalendar, SpellsNumbered, TreeHas, begun_last, calendar_has, may_pair, open_names, open_view};
 
 use crate::component::Component;
 use crate::own_lines::Run;
@@ -60,14 +67,20 @@ impl<'a> Object<'a> {
     /// Refused: as by `read_object`.
     pub fn read(alloc: Global, text: &'a Unfolded<'_>, limits: Limits) -> Result<Object<'a>, Fault>
         ensures spelled { IfOk result (λ object. IsObjectOf (is_bounded limits) object.calendar text.now) }
-        ensures own { IfOk result (λ object. object.own ≡ component_lines object.calendar) }
+        ensures own { IfOk result (λ object. own_lines object.own ≡ component_lines object.calendar) }
+        ensures numbered { IfOk result (λ object. own_numbered object.own ≡ component_numbered object.calendar) }
+        ensures begun { IfOk result (λ object. object.own.begun ≡ component_begun object.calendar) }
+        ensures placed { IfOk result (λ object. ArePlaced (enumerate_from 1 text.now) object.calendar) }
         ensures fault { IfErr result (RefusesBy (λ n. TreeHas (is_bounded limits) n text.now)) }
+        ensures at { IfErr result (RefusesWhere (ObjectBlame (is_bounded limits) text.now)) }
         ensures refuses { IfErr result (RefusesOnly is_object_fault) }
     {
         let mut lines = text.lines();
         let mut reader = Reader::new(alloc, lines);
         while let Some(line) = lines.next_text() {
-            reader.take(alloc, line, lines)?;
+            if let Err(fault) = reader.take(alloc, line, lines) {
+                return Err(fault.at(lines.passed()));
+            }
         }
         let calendar = reader.finish()?;
         let own = Properties::of(alloc, &calendar)?;
@@ -89,7 +102,9 @@ pub fn read_object<'a>(
     limits: Limits,
 ) -> Result<Component<'a>, Fault>
     ensures spelled { IfOk result (λ c. IsObjectOf (is_bounded limits) c text.now) }
+    ensures placed { IfOk result (λ c. ArePlaced (enumerate_from 1 text.now) c) }
     ensures fault { IfErr result (RefusesBy (λ n. TreeHas (is_bounded limits) n text.now)) }
+    ensures at { IfErr result (RefusesWhere (ObjectBlame (is_bounded limits) text.now)) }
     ensures refuses { IfErr result (RefusesOnly is_object_fault) }
 {
     let object = Object::read(alloc, text, limits)?;
@@ -112,7 +127,7 @@ impl<'a> Reader<'a> {
     fn new(alloc: Global, lines: Lines<'a>) -> Reader<'a>
         ensures open { result.open.items ≡ [] }
         ensures closed { result.closed ≡ None }
-        ensures follows { lines_after_run result.run ≡ lines_left lines.entry }
+        ensures follows { lines_after_run result.run ≡ numbered_left lines.entry }
     {
         Reader {
             open: Vec::new(alloc),
@@ -124,11 +139,11 @@ impl<'a> Reader<'a> {
     /// Takes the next line; `rest` are the lines after it. After an error the reader is spent.
     fn take(&mut self, alloc: Global, text: &'a str, rest: Lines<'a>) -> Result<(), Fault>
         requires one_line { is_one_line text.now ≡ true }
-        requires next { lines_after_run self.old.run ≡ text.now ∷ lines_left rest }
-        ensures follows { OnOk result (lines_after_run self.new.run ≡ lines_left rest.entry) }
-        ensures built { OnOk result ((done : List (List ℕ))
+        requires next { lines_after_run self.old.run ≡ (rest.passed, text.now) ∷ numbered_left rest }
+        ensures follows { OnOk result (lines_after_run self.new.run ≡ numbered_left rest.entry) }
+        ensures built { OnOk result ((done : List (ℕ × List ℕ))
             → Built (open_view self.old) self.old.closed done
-            → Built (open_view self.new) self.new.closed (done ++ text.now ∷ [])) }
+            → Built (open_view self.new) self.new.closed (done ++ (rest.entry.passed, text.now) ∷ [])) }
         ensures names { OnOk result (open_names (open_view self.new) ≡ now_open (open_names (open_view self.old)) text.now) }
         ensures fault { IfErr result (RefusesOnly (λ n. misplaced n (open_names (open_view self.old)) (is_some self.old.closed) text.now)) }
         ensures refuses { IfErr result (RefusesOnly is_object_fault) }
@@ -142,11 +157,11 @@ impl<'a> Reader<'a> {
 
     /// Opens a component; `rest` are the lines after its BEGIN.
     fn begin(&mut self, alloc: Global, name: &'a str, rest: Lines<'a>) -> Result<(), Fault>
-        ensures follows { OnOk result (lines_after_run self.new.run ≡ lines_left rest.entry) }
-        ensures built { OnOk result ((done : List (List ℕ)) (line : List ℕ)
+        ensures follows { OnOk result (lines_after_run self.new.run ≡ numbered_left rest.entry) }
+        ensures built { OnOk result ((done : List (ℕ × List ℕ)) (line : List ℕ)
             → Opens line name.now
             → Built (open_view self.old) self.old.closed done
-            → Built (open_view self.new) self.new.closed (done ++ line ∷ [])) }
+            → Built (open_view self.new) self.new.closed (done ++ (rest.entry.passed, line) ∷ [])) }
         ensures names { OnOk result (open_names (open_view self.new) ≡ name.now ∷ open_names (open_view self.old)) }
         ensures fault { IfErr result (RefusesOnly (λ n. misplaced_begin n (open_names (open_view self.old)) (is_some self.old.closed) name.now)) }
         ensures refuses { IfErr result (RefusesOnly is_object_fault) }
@@ -158,7 +173,7 @@ impl<'a> Reader<'a> {
             return Err(Fault::Refused(Refusal::NOT_ONE_CALENDAR));
         }
         self.end_run(rest)?;
-        self.open.push(Component::new(alloc, name))?;
+        self.open.push(Component::new(alloc, name, rest.passed()))?;
         Ok(())
     }
 
@@ -182,10 +197,10 @@ impl<'a> Reader<'a> {
 
     /// Closes the innermost component; `rest` are the lines after its END.
     fn end(&mut self, name: &str, rest: Lines<'a>) -> Result<(), Fault>
-        ensures follows { OnOk result (lines_after_run self.new.run ≡ lines_left rest.entry) }
-        ensures built { OnOk result ((done : List (List ℕ)) (line : List ℕ)
-            → is_end line ≡ true
-            → line_value line ≡ name.now
+        ensures follows { OnOk result (lines_after_run self.new.run ≡ numbered_left rest.entry) }
+        ensures built { OnOk result ((done : List (ℕ × List ℕ)) (line : ℕ × List ℕ)
+            → is_end line.1 ≡ true
+            → line_value line.1 ≡ name.now
             → Built (open_view self.old) self.old.closed done
             → Built (open_view self.new) self.new.closed (done ++ line ∷ [])) }
         ensures names { OnOk result (open_names (open_view self.new) ≡ drop 1 (open_names (open_view self.old))) }
@@ -211,9 +226,9 @@ impl<'a> Reader<'a> {
     /// Gives the innermost component its properties since the last BEGIN or END. Those to come are among `rest`.
     fn end_run(&mut self, rest: Lines<'a>) -> Result<(), AllocError>
         ensures view { OnOk result (open_view self.new ≡ open_view self.old) }
-        ensures follows { OnOk result (lines_after_run self.new.run ≡ lines_left rest.entry) }
+        ensures follows { OnOk result (lines_after_run self.new.run ≡ numbered_left rest.entry) }
         ensures closed { self.new.closed ≡ self.old.closed }
-        ensures empty { OnOk result (run_lines self.new.run ≡ []) }
+        ensures empty { OnOk result (run_numbered self.new.run ≡ []) }
         ensures open { OnOk result (length self.new.open.items ≡ length self.old.open.items) }
     {
         if !self.run.is_empty() {
@@ -230,8 +245,8 @@ impl<'a> Reader<'a> {
     fn add(&mut self) -> Result<(), Refusal>
         requires { 0 < length (lines_after_run self.old.run) }
         ensures follows { OnOk result (lines_after_run self.new.run ≡ drop 1 (lines_after_run self.old.run)) }
-        ensures built { OnOk result ((done : List (List ℕ)) (line : List ℕ) (rest : List (List ℕ))
-            → is_property line ≡ true
+        ensures built { OnOk result ((done : List (ℕ × List ℕ)) (line : ℕ × List ℕ) (rest : List (ℕ × List ℕ))
+            → is_property line.1 ≡ true
             → lines_after_run self.old.run ≡ line ∷ rest
             → Built (open_view self.old) self.old.closed done
             → Built (open_view self.new) self.new.closed (done ++ line ∷ [])) }
@@ -248,15 +263,16 @@ impl<'a> Reader<'a> {
 
     /// The VCALENDAR, after the last line.
     fn finish(self) -> Result<Component<'a>, Refusal>
-        ensures spelled { IfOk result (λ c. (done : List (List ℕ))
+        ensures spelled { IfOk result (λ c. (done : List (ℕ × List ℕ))
             → Built (open_view self.entry) self.entry.closed done
-            → SpellsOf 7 c done × IsCalendar c) }
+            → SpellsNumbered 7 c done × IsCalendar c) }
         ensures fault { IfErr result (λ r. IsTrue ((r.number == 21 && not (is_none (open_names (open_view self.entry))))
             || (r.number == 23 && (is_none (open_names (open_view self.entry)) && not (is_some self.entry.closed))))) }
+        ensures at { IfErr result (λ r. r.line ≡ begun_last (open_view self.entry)) }
         ensures refuses { IfErr result (λ r. IsTrue (is_object_fault r.number)) }
     {
-        if !self.open.is_empty() {
-            return Err(Refusal::NOT_CLOSED);
+        if let Some(component) = self.open.last() {
+            return Err(Refusal::NOT_CLOSED.at(component.begun()));
         }
         self.closed.ok_or(Refusal::NOT_ONE_CALENDAR)
     }
@@ -283,40 +299,46 @@ fn is_calendar(name: &str) -> bool
 /// Judges a VCALENDAR as a whole, of which these are the own lines: its VERSION, and how many VEVENTs it has.
 fn check_calendar(calendar: &Component, own: &Properties<'_>, limits: Limits) -> Result<(), Refusal>
     requires calendar { IsCalendar calendar.now }
-    requires own { own.now ≡ component_lines calendar.now }
+    requires own { own_lines own.now ≡ component_lines calendar.now }
     ensures version { OnOk result (has_version (component_lines calendar.now) ≡ true) }
     ensures events { OnOk result ((is_bounded limits && nat_lt 200 (count_children (codes "VEVENT") calendar.now)) ≡ false) }
     ensures fault { IfErr result (λ e. IsTrue (calendar_has (is_bounded limits) e.number calendar.now)) }
+    ensures at { IfErr result (λ e. CalendarBlame (is_bounded limits) (numbered_own own.now) (events_begun_in calendar.now) e.number e.line) }
     ensures refuses { IfErr result (λ e. IsTrue (is_object_fault e.number)) }
 {
-    if !has_version(own) {
-        return Err(Refusal::BAD_VERSION);
-    }
-    if exceeds_events(calendar, limits) {
-        return Err(Refusal::TOO_MANY_EVENTS);
+    check_version(own)?;
+    if let Some(event) = first_too_many(calendar, limits) {
+        return Err(Refusal::TOO_MANY_EVENTS.at(event.begun()));
     }
     Ok(())
 }
 
-/// Whether VERSION occurs exactly once among a component's own lines, and is `2.0`.
-fn has_version(properties: &Properties<'_>) -> bool
-    ensures { result ≡ has_version properties.now }
+/// VERSION occurs exactly once among a component's own lines, and is `2.0`.
+fn check_version(properties: &Properties<'_>) -> Result<(), Refusal>
+    ensures version { OnOk result (has_version (own_lines properties.now) ≡ true) }
+    ensures refuses { IfErr result (λ e. (e.number ≡ 24) × (has_version (own_lines properties.now) ≡ false)) }
+    ensures at { IfErr result (λ e. (bounded : Bool) (events : List ℕ) → CalendarBlame bounded (numbered_own properties.now) events 24 e.line) }
 {
-    match properties.required("VERSION", Refusal::BAD_VERSION) {
-        Ok(version) => version.value() == "2.0",
-        Err(_) => false,
+    let version = properties.required("VERSION", Refusal::BAD_VERSION)?;
+    if version.value() != "2.0" {
+        return Err(Refusal::BAD_VERSION.at(version.number()));
     }
+    Ok(())
 }
 
-/// Whether the VEVENTs directly inside are more than the limits allow.
-fn exceeds_events(calendar: &Component, limits: Limits) -> bool
-    ensures { result ≡ (is_bounded limits && nat_lt 200 (count_children (codes "VEVENT") calendar.now)) }
+/// The first VEVENT directly inside that is more than the limits allow.
+fn first_too_many<'a, 'b>(calendar: &'b Component<'a>, limits: Limits) -> Option<&'b Component<'a>>
+    ensures any { is_some result ≡ (is_bounded limits && nat_lt 200 (count_children (codes "VEVENT") calendar.now)) }
+    ensures first { option_map (λ event. event.now) result
+        ≡ (if is_bounded limits then slice_get (children_named (codes "VEVENT") calendar.now) 200 else None) }
 {
     match limits {
         Limits::Message => {
             let children = calendar.children().iter();
-            children.filter(|child| child.is_named("VEVENT")).count() > MAX_EVENTS
+            children
+                .filter(|child| child.is_named("VEVENT"))
+                .nth(MAX_EVENTS)
         }
-        Limits::Open => false,
+        Limits::Open => None,
     }
 }

@@ -1,3 +1,4 @@
+pub mod Blame
 pub mod Attendees
 pub mod Reply
 pub mod Refresh

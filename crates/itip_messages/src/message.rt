@@ -1,9 +1,10 @@
 //! A message, read: to rooms, or to an organiser (RFC 5546 1.4, 3.2; RFC 4791 4.1, RFC 6638 3.2). METHOD says which; an object without METHOD
 //! is a meeting that its organiser stores.
+ghost use Rattle.ical_tree.specs.Own.{own_lines, own_numbered};
 ghost use Rattle.std.specs.Prelude.{◌≡◌, ◌<◌, ℕ, true, List, Contains, Some, map, length, option_map, IfOk, IfErr, IsSome};
 ghost use Rattle.std.specs.List.{AllZip};
-ghost use Rattle.ical_lines.specs.Fault.{RefusesOnly, RefusesBy};
-ghost use Rattle.ical_tree.specs.Tree.{component_lines, tree_of};
+ghost use Rattle.ical_lines.specs.Fault.{RefusesOnly, RefusesBy, RefusesWhere};
+ghost use Rattle.ical_tree.specs.Tree.{component_lines, component_numbered, tree_of};
 ghost use Rattle.ical_values.specs.Octets.{address_octets, text_octets};
 ghost use Rattle.profile.specs.faults.Faults.{is_message_fault};
 ghost use Rattle.profile.specs.events.Messages as profile;
@@ -39,6 +40,7 @@ pub struct Message {
 }
 
 impl Message {
+    ghost use Rattle.itip_messages.specs.Blame.{MessageBlame, MessageTextBlame};
     ghost use Rattle.itip_messages.specs.Message.{IsMessageOf, IsSpelled, ReadFault, RepresentsMessage, SaysEvents};
 
     /// Reads a message.
@@ -49,6 +51,7 @@ impl Message {
         ensures spells { IfOk result (IsSpelled bytes.now) }
         ensures refuses { IfErr result (RefusesOnly is_message_fault) }
         ensures fault { IfErr result (ReadFault bytes.now) }
+        ensures at { IfErr result (RefusesWhere (MessageTextBlame bytes.now)) }
     {
         let text = Unfolded::read(alloc, bytes, Limits::Message)?;
         let object = Object::read(alloc, &text, Limits::Message)?;
@@ -58,11 +61,12 @@ impl Message {
     /// The message that an object of these own lines is. Where it says one, some octets spell that.
     /// Refused: as by `read`, except for the object.
     fn of_object(alloc: Global, object: &Component, own: &Properties<'_>) -> Result<Message, Fault>
-        requires own { own.now ≡ component_lines object.now }
+        requires own { own_lines own.now ≡ component_lines object.now }
         requires spelled { (said : profile.Message) → SaysMessage (tree_of object.now) said → (octets : List ℕ) × SpellsMessage octets said }
         ensures says { IfOk result (IsMessageOf (tree_of object.now)) }
         ensures refuses { IfErr result (RefusesOnly is_message_fault) }
         ensures fault { IfErr result (RefusesBy (MessageFault (tree_of object.now))) }
+        ensures at { own_numbered own.now ≡ component_numbered object.now → IfErr result (RefusesWhere (MessageBlame object.now)) }
     {
         let (method, events) = read_events(alloc, object, own)?;
         Ok(Message::of(alloc, object, method, events)?)

@@ -234,6 +234,7 @@ fn without_attendees(alloc: Global, event: EventComponent) -> Result<Parted, All
 {
     let empty = Text::of(alloc, "")?;
     let EventComponent {
+        begun,
         uid,
         organiser,
         stamp,
@@ -250,6 +251,7 @@ fn without_attendees(alloc: Global, event: EventComponent) -> Result<Parted, All
     } = event;
     Ok(Parted {
         event: EventComponent {
+            begun,
             uid,
             organiser,
             stamp,

@@ -4,6 +4,7 @@ pub mod ZonedTimes
 pub mod EventRules
 pub mod Occurrences
 pub mod EventComponents
+pub mod EventBlame
 pub mod Placed
 pub mod Events
 pub mod Messages

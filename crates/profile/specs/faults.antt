@@ -1,3 +1,4 @@
--- the numbers of refusals, and which comes first
+-- the numbers of refusals, which comes first, and at which line
 pub mod Faults
 pub mod First
+pub mod Blame

@@ -10,3 +10,4 @@ pub mod RoomZones
 pub mod GeneralZones
 pub mod GeneralZoneTexts
 pub mod Residues
+pub mod ZoneBlame

@@ -25,17 +25,16 @@ helps octets old one new going_on adapted shown is same e (ending, ends, f) =
     (made ++ ending, inr (going_on, adapted, ending, is, subst (λ (o : List ℕ). IsEnding o ending) same ends, refl), two_joined old one new made ending e f)
 
 -- the reason: a place or none, and the end of the line; or what is in the way
-pub blamed_reason : (octets old one new : List ℕ) (n : ℕ) → (place : List ℕ) × IsPlaceText octets n place × (one ≡ old ++ place) → new ≡ one ++ codes "\n" → (reason : List ℕ) × IsReason octets n reason × (new ≡ old ++ reason)
-blamed_reason octets old one new n (place, is, e) f = (place ++ codes "\n", inl (place, is, refl), two_joined old one new place (codes "\n") e f)
+pub blamed_reason : (octets old one new : List ℕ) (n at : ℕ) → (place : List ℕ) × IsPlaceText octets at place × (one ≡ old ++ place) → new ≡ one ++ codes "\n" → (reason : List ℕ) × IsReason octets n at reason × (new ≡ old ++ reason)
+blamed_reason octets old one new n at (place, is, e) f = (place ++ codes "\n", inl (place, is, refl), two_joined old one new place (codes "\n") e f)
 
-pub way_reason : (octets old one two three new : List ℕ) (n : ℕ) (way : InTheWay) → IsInTheWay octets n way → one ≡ old ++ place_text way.place.line way.place.property.items → two ≡ one ++ codes "\n" → three ≡ two ++ way_text way
-    → (help : List ℕ) × IsHelp octets help × (new ≡ three ++ help) → (reason : List ℕ) × IsReason octets n reason × (new ≡ old ++ reason)
-way_reason octets old one two three new n way is e f g (help, helps, h) =
+pub way_reason : (octets old one two three new : List ℕ) (n at : ℕ) (way : InTheWay) → IsInTheWay octets n way → one ≡ old ++ place_text way.place.line way.place.property.items → two ≡ one ++ codes "\n" → three ≡ two ++ way_text way
+    → (help : List ℕ) × IsHelp octets help × (new ≡ three ++ help) → (reason : List ℕ) × IsReason octets n at reason × (new ≡ old ++ reason)
+way_reason octets old one two three new n at way is e f g (help, helps, h) =
     let place = place_text way.place.line way.place.property.items in
     (place ++ (codes "\n" ++ (way_text way ++ help)), inr (inl (way, help, is, helps, refl)), four_joined old one two three new place (codes "\n") (way_text way) help e f g h)
 
-pub flaw_reason : (octets old one two new : List ℕ) (n : ℕ) (flaw : PlacedFlaw) → IsFlawIn octets flaw → one ≡ old ++ place_text flaw.place.line flaw.place.property.items → two ≡ one ++ codes "\n" → new ≡ two ++ flaw_text flaw
-    → (reason : List ℕ) × IsReason octets n reason × (new ≡ old ++ reason)
-flaw_reason octets old one two new n flaw is e f g =
-    let place = place_text flaw.place.line flaw.place.property.items in
-    (place ++ (codes "\n" ++ flaw_text flaw), inr (inr (flaw, is, refl)), three_joined old one two new place (codes "\n") (flaw_text flaw) e f g)
+pub flaw_reason : (octets old one two new : List ℕ) (n at : ℕ) (flaw : PlacedFlaw) → IsFlawIn octets flaw → (place : List ℕ) × IsPlaceText octets at place × (one ≡ old ++ place) → two ≡ one ++ codes "\n" → new ≡ two ++ flaw_text flaw
+    → (reason : List ℕ) × IsReason octets n at reason × (new ≡ old ++ reason)
+flaw_reason octets old one two new n at flaw is (place, there, e) f g =
+    (place ++ (codes "\n" ++ flaw_text flaw), inr (inr (place, there, flaw, is, refl)), three_joined old one two new place (codes "\n") (flaw_text flaw) e f g)

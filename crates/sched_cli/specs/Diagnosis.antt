@@ -8,7 +8,8 @@ use Rattle.profile.specs.events.Messages.{Message, SpellsMessage, MessageTextFau
 use Rattle.ical_tree.specs.Reading.{ObjectHas}
 use Rattle.cal_events.specs.Component.{method_said}
 use Rattle.itip_messages.specs.declared.message.Message as itip
-use Rattle.fault_places.specs.Blames.{IsFaultPlace, IsUnknown}
+use Rattle.itip_messages.specs.Blame.{MessageTextBlame}
+use Rattle.fault_places.specs.Places.{HasNoLine, IsPlaceOf}
 use Rattle.fault_places.specs.EventFlaws.{IsFlawIn, flaw_text}
 use Rattle.sched_cli.specs.Explained.{meaning_of}
 use Rattle.fault_places.specs.InTheWay.{IsInTheWay}
@@ -54,11 +55,10 @@ property_text (c ∷ cs) = codes ": " ++ (c ∷ cs)
 abbrev pub place_text : ℕ → List ℕ → List ℕ
 place_text line property = codes " at line " ++ (decimal line ++ property_text property)
 
--- where a fault is: at the first content line of the octets that has the fault of this number by itself, or at the one that alone can have it;
--- where there is neither, nothing
+-- the place of the logical line of this number; nothing where there is none
 abbrev pub IsPlaceText : List ℕ → ℕ → List ℕ → Type 0
-IsPlaceText octets n text =
-    ((text ≡ []) × IsUnknown octets n) ⊎ ((line : ℕ) × (property : List ℕ) × IsFaultPlace octets n line property × (text ≡ place_text line property))
+IsPlaceText octets at text =
+    ((text ≡ []) × HasNoLine octets at) ⊎ ((line : ℕ) × (property : List ℕ) × IsPlaceOf octets at line property × (text ≡ place_text line property))
 
 -- what is in the way of a VTIMEZONE: the part that has it, the line on which that begins, and the words
 abbrev pub way_text : InTheWay → List ℕ
@@ -80,24 +80,23 @@ IsHelp octets text =
     ⊎ ((going_on : List (List ℕ)) × (adapted : List ℕ) × (ending : List ℕ) × IsAdapted None octets going_on adapted × IsEnding adapted ending
     × (text ≡ codes " `roombox adapt` makes an object of it that is " ++ ending))
 
--- what is written behind the number: the place of the fault; or, where a VTIMEZONE has it, the place of what is in the way there, and a line that
--- tells what it is and what the door makes of the octets; or, where a VEVENT lacks a property or has it twice, its place and a line that tells it
-abbrev pub IsReason : List ℕ → ℕ → List ℕ → Type 0
-IsReason octets n text =
-    ((place : List ℕ) × IsPlaceText octets n place × (text ≡ place ++ codes "\n"))
+-- what is written behind the number: the place of the line of this number, and where a VEVENT lacks a property or has it twice a line that tells it; or, where
+-- a VTIMEZONE has it, the place of what is in the way there, and a line that tells what it is and what the door makes of the octets
+abbrev pub IsReason : List ℕ → ℕ → ℕ → List ℕ → Type 0
+IsReason octets n at text =
+    ((place : List ℕ) × IsPlaceText octets at place × (text ≡ place ++ codes "\n"))
     ⊎ (((way : InTheWay) × (help : List ℕ) × IsInTheWay octets n way × IsHelp octets help
     × (text ≡ place_text way.place.line way.place.property.items ++ (codes "\n" ++ (way_text way ++ help))))
-    ⊎ ((flaw : PlacedFlaw) × IsFlawIn octets flaw
-    × (text ≡ place_text flaw.place.line flaw.place.property.items ++ (codes "\n" ++ flaw_text flaw))))
+    ⊎ ((place : List ℕ) × IsPlaceText octets at place × (flaw : PlacedFlaw) × IsFlawIn octets flaw × (text ≡ place ++ (codes "\n" ++ flaw_text flaw))))
 
 -- a line is the number and what it means, and then what to do
 abbrev pub IsMeaningOf : ℕ → List ℕ → Type 0
 IsMeaningOf n line = StartsWith line (decimal n ++ (codes ": " ++ (meaning_of n ++ codes " What to do: ")))
 
--- what is written of a number: where the fault is and what it is, and the meaning of the number
-pub record IsRefusedText (octets : List ℕ) (n : ℕ) (text : List ℕ) : Type 0 where
+-- what is written of a number and a line: where the fault is and what it is, and the meaning of the number
+pub record IsRefusedText (octets : List ℕ) (n at : ℕ) (text : List ℕ) : Type 0 where
   pub reason : List ℕ
-  pub why : IsReason octets n reason
+  pub why : IsReason octets n at reason
   pub meaning : List ℕ
   pub own : IsMeaningOf n meaning
   pub is : text ≡ codes "refused " ++ (decimal n ++ (reason ++ meaning))
@@ -106,6 +105,8 @@ pub record IsRefusedText (octets : List ℕ) (n : ℕ) (text : List ℕ) : Type 
 pub record SaysRefused (octets : List ℕ) (old new : Option (List ℕ)) : Type 0 where
   pub number : ℕ
   pub fault : HasFault octets number
+  pub at : ℕ
+  pub blame : MessageTextBlame octets number at
   pub text : List ℕ
-  pub says : IsRefusedText octets number text
+  pub says : IsRefusedText octets number at text
   pub written : Appends old new text

@@ -12,9 +12,9 @@ use crate::status::{DONE, NO, report_memory, report_write};
 use cal_doors::adapt;
 use cal_events::Method;
 use fault_places::{
-    FlawKind, InTheWay, ObjectFlaw, Place, PlacedFlaw, Sought, flaw_in_object, in_the_way, place_of,
+    FlawKind, InTheWay, ObjectFlaw, Place, PlacedFlaw, flaw_in_object, in_the_way, place_of,
 };
-use ical_lines::Fault;
+use ical_lines::{Fault, Refusal};
 use itip_messages::Message;
 use itoa::Buffer;
 use sched_box::Output;
@@ -38,7 +38,7 @@ pub fn run_explain_object<W: Output, E: Output>(
 {
     match Message::read(alloc, octets) {
         Ok(message) => write_status(writer, errors, DONE, taken_line(&message).as_bytes()),
-        Err(Fault::Refused(refusal)) => match refused_text(alloc, octets, refusal.number) {
+        Err(Fault::Refused(refusal)) => match refused_text(alloc, octets, refusal) {
             Ok(text) => write_status(writer, errors, NO, text.as_slice()),
             Err(_) => report_memory(errors),
         },
@@ -82,17 +82,17 @@ fn taken_line(message: &Message) -> &'static str
     }
 }
 
-/// What is said of an object that is refused with this number: a line with the place, of a VTIMEZONE one with what is in the way, and the line of the
+/// What is said of an object that is refused so: a line with the place, of a VTIMEZONE one with what is in the way, and the line of the
 /// number.
-fn refused_text(alloc: Global, octets: &[u8], number: u8) -> Result<Vec<u8>, AllocError>
-    ensures { is_explained number ≡ true → IfOk result (λ text. IsRefusedText octets.now number text.items) }
+fn refused_text(alloc: Global, octets: &[u8], refusal: Refusal) -> Result<Vec<u8>, AllocError>
+    ensures { is_explained refusal.number ≡ true → IfOk result (λ text. IsRefusedText octets.now refusal.number refusal.line text.items) }
 {
     let mut text = Vec::new(alloc);
     let mut digits = Buffer::new();
     text.extend_from_slice(b"refused ")?;
-    text.extend_from_slice(digits.format(number).as_bytes())?;
-    append_reason(alloc, &mut text, octets, number)?;
-    append_meaning(&mut text, number)?;
+    text.extend_from_slice(digits.format(refusal.number).as_bytes())?;
+    append_reason(alloc, &mut text, octets, refusal)?;
+    append_meaning(&mut text, refusal.number)?;
     Ok(text)
 }
 
@@ -101,12 +101,12 @@ fn append_reason(
     alloc: Global,
     text: &mut Vec<u8>,
     octets: &[u8],
-    number: u8,
+    refusal: Refusal,
 ) -> Result<(), AllocError>
-    ensures { OnOk result ((reason : List ℕ) × IsReason octets.now number reason × (text.new.items ≡ text.old.items ++ reason)) }
+    ensures { OnOk result ((reason : List ℕ) × IsReason octets.now refusal.number refusal.line reason × (text.new.items ≡ text.old.items ++ reason)) }
 {
-    let Some(found) = in_the_way(alloc, octets, number)? else {
-        return append_line(alloc, text, octets, number);
+    let Some(found) = in_the_way(alloc, octets, refusal.number)? else {
+        return append_line(alloc, text, octets, refusal);
     };
     append_place(text, &found.place)?;
     end_line(text)?;
@@ -119,16 +119,15 @@ fn append_line(
     alloc: Global,
     text: &mut Vec<u8>,
     octets: &[u8],
-    number: u8,
+    refusal: Refusal,
 ) -> Result<(), AllocError>
-    ensures { OnOk result ((reason : List ℕ) × IsReason octets.now number reason × (text.new.items ≡ text.old.items ++ reason)) }
+    ensures { OnOk result ((reason : List ℕ) × IsReason octets.now refusal.number refusal.line reason × (text.new.items ≡ text.old.items ++ reason)) }
 {
-    let ObjectFlaw::Placed(found) = flaw_in_object(alloc, octets, number)? else {
-        append_blamed(alloc, text, octets, number)?;
-        return end_line(text);
-    };
-    append_place(text, &found.place)?;
+    append_blamed(alloc, text, octets, refusal.line())?;
     end_line(text)?;
+    let ObjectFlaw::Placed(found) = flaw_in_object(alloc, octets, refusal.number)? else {
+        return Ok(());
+    };
     append_flaw(text, &found)
 }
 
@@ -139,16 +138,16 @@ fn end_line(text: &mut Vec<u8>) -> Result<(), AllocError>
     Ok(())
 }
 
-/// The place of the line that is to blame; nothing where it isn't known.
+/// The place of the logical line of this number; nothing where there is none.
 fn append_blamed(
     alloc: Global,
     text: &mut Vec<u8>,
     octets: &[u8],
-    number: u8,
+    line: usize,
 ) -> Result<(), AllocError>
-    ensures { OnOk result ((place : List ℕ) × IsPlaceText octets.now number place × (text.new.items ≡ text.old.items ++ place)) }
+    ensures { OnOk result ((place : List ℕ) × IsPlaceText octets.now line place × (text.new.items ≡ text.old.items ++ place)) }
 {
-    let Some(place) = place_of(alloc, octets, Sought::Fault(number))? else {
+    let Some(place) = place_of(alloc, octets, line)? else {
         return Ok(());
     };
     append_place(text, &place)

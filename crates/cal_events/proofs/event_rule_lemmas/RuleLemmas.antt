@@ -6,7 +6,7 @@ use Rattle.std.specs.Prelude.{Option, Some, None, Result, Ok, Err, IfOk, IfErr, 
 use Rattle.std.proofs.lemmas.Bool.{false≢true, or_parts}
 use Rattle.ical_lines.specs.Fault.{RefusesBy}
 use Rattle.ical_lines.specs.declared.fault.Fault.{Fault}
-use Rattle.ical_lines.specs.declared.fault.Fault.TheVariants.{Refused}
+use Rattle.ical_lines.specs.declared.fault.Fault.TheVariants.{Refused, Memory}
 use Rattle.profile.specs.series.Days.{day_index, number_of_day, IsDayDate, days_before_year, days_of_months}
 use Rattle.profile.specs.text.Lines.{line_value}
 use Rattle.profile.specs.text.Values.{IsClockSeconds}
@@ -81,12 +81,11 @@ module _ (zone : Zone) (local : ℤ) (text : RuleText) (day second last : ℕ) (
       record { day = day; second = second; on = on; last = last; allowed = allowed; is = made; starts = subst (λ (x : Rule). is_rule_day x day ≡ true) (sym made) starts }
   rule_given (Err e) made starts = tt
 
-  pub rule_refused : (r : Result Rule Fault) → IfErr r (λ e. (e ≡ Refused (record { number = 34 })) × (is_rule_day (rule_of text day last) day ≡ false))
+  pub rule_refused : (r : Result Rule Fault) → IfErr r (RefusesBy (λ n. (n ≡ 34) × (is_rule_day (rule_of text day last) day ≡ false)))
       → IfErr r (RefusesBy (λ n. (n ≡ 34) × IsOutsideRule zone local text))
   rule_refused (Ok rule) h = tt
-  rule_refused (Err e) (is, never) =
-      subst (RefusesBy (λ n. (n ≡ 34) × IsOutsideRule zone local text)) (sym is)
-      (refl, record { day = day; second = second; on = on; none = inr (last, allowed, never) })
+  rule_refused (Err Memory) h = tt
+  rule_refused (Err (Refused r)) (is, never) = (is, record { day = day; second = second; on = on; none = inr (last, allowed, never) })
 
 -- ---- the fault of a start
 

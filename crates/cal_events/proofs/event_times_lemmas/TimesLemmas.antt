@@ -1,8 +1,10 @@
 -- What DTSTART, DTEND and DURATION say, put together.
 -- Cited by SaidTimes::judge, judge_from, judge_alone, read_extent.
-use Rattle.std.proofs.Common.{◌≡◌, ◌∙◌, ℕ, ◌≤◌, Bool, true, false, not, List, codes, subst, sym, ap, refl, inl, inr, arith, ℤ, pos, ◌+ℤ◌, ◌*ℤ◌, ◌<ℤ◌}
-use Rattle.std.specs.Prelude.{Option, Some, None, Result, Ok, Err, IfOk, IfErr, ◌⊎◌, ◌≢◌, ◌↔◌, IsTrue}
+use Rattle.std.proofs.Common.{◌≡◌, ◌∙◌, ℕ, ◌≤◌, ◌==◌, Bool, true, false, cond, not, Less, Equal, Greater, List, codes, subst, sym, ap, refl, inl, inr, arith, ℤ, pos, ◌+ℤ◌, ◌*ℤ◌, ◌<ℤ◌}
+use Rattle.std.specs.Prelude.{nat_lt, Option, Some, None, Result, Ok, Err, IfOk, IfErr, ◌⊎◌, ◌≢◌, ◌↔◌, IsTrue}
+use Rattle.std.specs.Ordering.{is_lt, nat_cmp, ord_max}
 use Rattle.std.proofs.lemmas.Bool.{true≢false}
+use Rattle.std.proofs.lemmas.Bool.Decides.{nat_tests}
 use denote.Enum.Bare.{sameb, same_true, differs_true, differs_false}
 use Rattle.std.proofs.lemmas.Int.{ints}
 use Rattle.profile.specs.text.Trees.{Tree}
@@ -21,7 +23,17 @@ use Rattle.cal_events.specs.declared.when.When.{When}
 use Rattle.ical_lines.specs.declared.fault.Refusal.{Refusal}
 use Rattle.ical_values.specs.declared.duration.Duration.{Duration}
 use Rattle.cal_events.specs.Component.{length_of, form_of, form_said, zone_said, local_said, IsLengthTo, GivesLength, GivesAlone, ExtentFault, AloneFault, other_form as is_other, part_of_day as is_part, ends_early as lies_before, ends_late as lies_late, lasts_long as is_long}
-use Rattle.cal_events.specs.Zoned.{ends_in, EndsSo, IsExtentIn, AreSaid, AreSaidAlone}
+use Rattle.cal_events.specs.Zoned.{ends_in, EndsSo, IsExtentIn, AreSaid, AreSaidAlone, IsExtentLine, MayHave}
+use Rattle.cal_events.specs.Occurrences.{IsLineNamed}
+use Rattle.cal_events.specs.Property.{IsLineOf}
+use Rattle.cal_events.specs.declared.property.Property.TheVariants as durations
+use Rattle.cal_events.specs.declared.property.Property.TheVariants.{Dtend}
+use Rattle.ical_lines.specs.Text.{line_text}
+use Rattle.ical_lines.specs.declared.line.Line.{Line}
+use Rattle.profile.specs.faults.Blame.{Numbered}
+use Rattle.profile.specs.series.ZoneBlame.{NumberedZone}
+use Rattle.profile.specs.events.EventBlame.{EventBlame, IsWrong, beside, together}
+use Rattle.profile.specs.events.EventComponents.{Method, DTSTART, DTEND, DURATION}
 use Rattle.cal_events.proofs.shared_lemmas.EventLemmas.{some_line, IsNone, long_length}
 use Rattle.cal_events.proofs.shared_lemmas.Meanings.{utc_instant}
 
@@ -304,17 +316,76 @@ ok_so (Err e) P Q so h = tt
 
 -- ---- DURATION alone
 
-pub duration_fault : (object : Tree) (lines : Lines) (line text : List ℕ) (n : ℕ) → OccursAtMostOnce (codes "DURATION") lines (Some line) → text ≡ line_value line
-    → (n ≡ 12) ⊎ (n ≡ 51) → (n ≡ 12 → IsNone text) → (n ≡ 12 → SpellsNegative text → ⊥) → (n ≡ 51 → SpellsNegative text ⊎ SpellsLong text)
+-- the fault of this number is in a text of it
+abbrev pub IsBadDuration : List ℕ → ℕ → Type 0
+IsBadDuration text n =
+    ((n ≡ 12) ⊎ (n ≡ 51)) × (n ≡ 12 → IsNone text) × (n ≡ 12 → SpellsNegative text → ⊥) × (n ≡ 51 → SpellsNegative text ⊎ SpellsLong text)
+
+pub bad_text : (text : List ℕ) (r : Result Duration Refusal) → IfErr r (λ e. (e.number ≡ 12) ⊎ (e.number ≡ 51)) → IfErr r (λ e. e.number ≡ 12 → IsNone text)
+    → IfErr r (λ e. e.number ≡ 12 → SpellsNegative text → ⊥) → IfErr r (λ e. e.number ≡ 51 → SpellsNegative text ⊎ SpellsLong text)
+    → IfErr r (λ e. IsBadDuration text e.number)
+bad_text text (Ok d) refuses none positive long = tt
+bad_text text (Err e) refuses none positive long = (refuses, none, positive, long)
+
+pub wrong_duration : (line : List ℕ) (n : ℕ) → IsBadDuration (line_value line) n → IsWrong DURATION line n
+wrong_duration line n (inl k, none, positive, long) = inl (k, none k)
+wrong_duration line n (inr k, none, positive, long) = inr (k, long k)
+
+pub duration_fault : (object : Tree) (lines : Lines) (line : List ℕ) (n : ℕ) → OccursAtMostOnce (codes "DURATION") lines (Some line) → IsBadDuration (line_value line) n
     → EventTimesFault object lines n
-duration_fault object lines line text n once e (inl k) none positive long =
-    let none' = subst IsNone e (none k) in
-    let no' = subst (λ (t : List ℕ). SpellsNegative t → ⊥) e (positive k) in
-    subst (EventTimesFault object lines) (sym k) (bad_duration (some_line (codes "DURATION") IsNoDuration lines line once (none', no')))
-duration_fault object lines line text n once e (inr k) none positive long =
-    let long' = subst (λ (t : List ℕ). SpellsNegative t ⊎ SpellsLong t) e (long k) in
+duration_fault object lines line n once (inl k, none, positive, long) =
+    subst (EventTimesFault object lines) (sym k) (bad_duration (some_line (codes "DURATION") IsNoDuration lines line once (none k, positive k)))
+duration_fault object lines line n once (inr k, none, positive, long) =
     subst (EventTimesFault object lines) (sym k)
-    (lasts_long (some_line (codes "DURATION") IsNegativeOrLong lines line once (elim long' [ inl h ↦ inl h | inr h ↦ long_length line h ])))
+    (lasts_long (some_line (codes "DURATION") IsNegativeOrLong lines line once (elim (long k) [ inl h ↦ inl h | inr h ↦ long_length line h ])))
+
+-- ---- at which lines
+
+abbrev pub IsLater : ℕ → ℕ → ℕ → Type 0
+IsLater a b later = ((a ≤ b) × (later ≡ b)) ⊎ ((b ≤ a) × (later ≡ a))
+
+pub later_is : (a b : ℕ) → IsLater a b (ord_max nat_cmp a b)
+later_is a b = go (nat_lt b a) (b == a) refl
+  where
+    go : (p q : Bool) → nat_lt b a ≡ p → IsLater a b (cond (is_lt (cond p Less (cond q Equal Greater))) a b)
+    go true q e = inr (grind (arith, nat_tests, e), refl)
+    go false true e = inl (grind (arith, nat_tests, e), refl)
+    go false false e = inl (grind (arith, nat_tests, e), refl)
+
+pub extent_may : (form : Form) (extent : Extent) (n : ℕ) → ExtentFault form extent n → MayHave extent n
+extent_may form extent n (is_other end differ) = refl
+extent_may form extent n (is_part duration whole part) = refl
+extent_may form extent n (lies_before end alike h) = refl
+extent_may form extent n (lies_late end alike h) = refl
+extent_may form extent n (is_long duration h) = refl
+
+pub alone_may : (extent : Extent) (n : ℕ) → AloneFault extent n → MayHave extent n
+alone_may (For duration) n h = extent_may Fixed (For duration) n h
+alone_may (To end) n h = absurd h
+alone_may Open n h = absurd h
+
+-- only an end is outside
+pub outside_may : (extent : Extent) → ends_in extent ≡ false → MayHave extent 52
+outside_may (To end) h = refl
+outside_may (For duration) h = absurd (true≢false h)
+outside_may Open h = absurd (true≢false h)
+
+module _ (m : Option Method) (zones : List NumberedZone) (event : Numbered) where
+  pub extent_blamed : (extent : Extent) (n at : ℕ) → IsExtentLine event extent at → MayHave extent n → EventBlame m zones event n at
+  extent_blamed (To end) n at line may = together DTEND may line
+  extent_blamed (For duration) n at line may = together DURATION may line
+  extent_blamed Open n at line may = absurd may
+
+  pub start_blamed : (n at : ℕ) → IsLineNamed DTSTART event at → n ≡ 52 → EventBlame m zones event n at
+  start_blamed n at line is = rw is (together DTSTART refl line)
+
+  -- DTEND beside DURATION, at the later of both
+  pub both_blamed : (end duration : Line) → IsLineOf Dtend event end → IsLineOf durations.Duration event duration → (later : ℕ)
+      → IsLater end.number duration.number later → EventBlame m zones event 61 later
+  both_blamed end duration first second later (inl (before, is)) =
+      rw is (beside end.number DURATION DTEND before (inr (refl, refl)) (record { line = line_text duration; among = second.0; holds = second.1 }) (record { line = line_text end; among = first.0; holds = first.1 }))
+  both_blamed end duration first second later (inr (before, is)) =
+      rw is (beside duration.number DTEND DURATION before (inl (refl, refl)) (record { line = line_text end; among = first.0; holds = first.1 }) (record { line = line_text duration; among = second.0; holds = second.1 }))
 
 -- ---- the days of a DURATION
 

@@ -1,16 +1,19 @@
 -- Which slots events are of: how many are masters, and which instances the others are for, by their instants or by the times that name them.
 -- Behind judge_slots: count_masters, share_instant, share_time, times_named, share_form.
-use Rattle.std.proofs.Common.{◌≡◌, ◌≢◌, ◌∙◌, ℕ, zero, ◌+◌, ◌<◌, ◌≤◌, Bool, true, false, not, cond, ◌||◌, List, [], ◌∷◌, ◌++◌, length, map, filter, get_or, take, append-nil, sym, ap, subst, refl, arith, ℤ}
-use Rattle.std.specs.Prelude.{Option, Some, None, is_some, AllPairs, MatchBool}
+use Rattle.std.proofs.Common.{◌≡◌, ◌≢◌, ◌∙◌, ℕ, zero, ◌+◌, ◌<◌, ◌≤◌, Bool, true, false, not, cond, ◌||◌, List, [], ◌∷◌, ◌++◌, length, map, filter, get_or, take, drop, suc, inl, inr, append-nil, sym, ap, subst, refl, arith, ℤ}
+use Rattle.std.specs.Prelude.{Option, Some, None, is_some, AllPairs, Contains, MatchBool}
 use Rattle.std.specs.Option.{option_to_list}
-use Rattle.std.proofs.lemmas.Bool.{true≢false}
-use Rattle.std.proofs.lemmas.List.{length-append, take_more, take_all}
+use Rattle.std.proofs.lemmas.Bool.{cases_lt, true≢false}
+use Rattle.std.proofs.lemmas.List.{length-append, length-map, length-take, map-append, take-append-drop, take_more, take_all}
+use Rattle.std.proofs.lemmas.List.Elements.{Contains-append_left, filter-append}
+use Rattle.std.proofs.lemmas.List.Filters.{length-filter_both}
+use Rattle.ical_tree.proofs.OneLine.{at_place}
 use Rattle.std.proofs.lemmas.Option.{same_Some}
 use Rattle.profile.specs.rooms.Messages.{instants_in, is_of_form}
 use Rattle.profile.specs.events.Properties.{Form, Fixed, Floating, WholeDay, is_fixed, is_floating, is_whole_day}
 use Rattle.profile.specs.events.Occurrences.{Time as SaidTime}
-use Rattle.profile.specs.events.EventComponents.{EventComponent as SaidComponent}
-use Rattle.profile.specs.events.Events.{is_master, is_override, InstancesDiffer, TimesDiffer}
+use Rattle.profile.specs.events.EventComponents.{EventComponent as SaidComponent, Method}
+use Rattle.profile.specs.events.Events.{is_master, is_override, InstancesDiffer, OverridesApart, TimesDiffer}
 use Rattle.cal_events.specs.Component.{component_of, time_of}
 use Rattle.cal_events.specs.declared.component.EventComponent.{EventComponent}
 use Rattle.cal_events.specs.declared.time.Time.{Time}
@@ -59,6 +62,44 @@ other_pushed ys x count t r c =
 module _ (all : List EventComponent) (i : ℕ) (x : EventComponent) (within : i < length all) (here : x ≡ get_or all i x) (count : ℕ) (so_far : AreMasters (take i all) count) where
   pub other_counted : (t : ℤ) → x.recurrence ≡ Some t → AreMasters (take (i + 1) all) count
   other_counted t r = more_for all i x within here (λ (l : List EventComponent). AreMasters l count) (other_pushed (take i all) x count t r so_far)
+
+-- one was before
+pub some_before : (all : List EventComponent) (i count : ℕ) → AreMasters (take i all) count → count ≡ 1 → 0 < i
+some_before all i count c one = omega (arith, c.within, one, length-take i all)
+
+pub second_there : (all : List EventComponent) (i : ℕ) (x : EventComponent) → i < length all → x ≡ get_or all i x → (count : ℕ) → AreMasters (take i all) count → count ≡ 1
+    → is_master (component_of x) ≡ true → 1 < length (filter is_master (map component_of all))
+second_there all i x w e count c one is =
+    let before = filter is_master (map component_of (take i all)) in
+    let after = filter is_master (map component_of (drop (i + 1) all)) in
+    let parts : all ≡ take i all ++ x ∷ drop (i + 1) all = sym (take-append-drop i all) ∙ ap (λ z. take i all ++ z) (at_place all i x w e) in
+    let whole : filter is_master (map component_of all) ≡ before ++ component_of x ∷ after =
+    ap (λ l. filter is_master (map component_of l)) parts ∙ ap (filter is_master) (map-append component_of (take i all) (x ∷ drop (i + 1) all))
+    ∙ filter-append is_master (map component_of (take i all)) (component_of x ∷ map component_of (drop (i + 1) all))
+    ∙ ap (λ b. before ++ cond b (component_of x ∷ after) after) is in
+    let lengths : length (filter is_master (map component_of all)) ≡ length before + suc (length after) = ap length whole ∙ length-append before (component_of x ∷ after) in
+    omega (arith, lengths, c.masters, one)
+
+-- ---- some of them
+
+pub named_before : (all : List EventComponent) (k : ℕ) → NameInstances (map component_of all) → NameInstances (map component_of (take k all))
+named_before all k named event among =
+    named event (subst (λ (l : List EventComponent). Contains (map component_of l) event) (take-append-drop k all)
+    (subst (λ (l : List SaidComponent). Contains l event) (sym (map-append component_of (take k all) (drop k all)))
+    (Contains-append_left (map component_of (take k all)) (map component_of (drop k all)) event among)))
+
+few_apart : (m : Option Method) (events : List SaidComponent) → length events ≤ 1 → OverridesApart m events
+few_apart None events few = λ i j d l w. absurd (omega (arith, l, w, few, length-map events (λ event. event.recurrence)))
+few_apart (Some m) events few = λ i j d l w. absurd (omega (arith, l, w, few, length-map events (λ event. event.written.recurrence)))
+
+pub two_shared : (m : Option Method) (all : List EventComponent) → (OverridesApart m (filter is_override (map component_of all)) → ⊥) → 1 < length all
+two_shared m all shared =
+    let events = map component_of all in
+    let both = length-filter_both is_override (λ event. not (is_override event)) (λ event. refl) events in
+    elim (cases_lt 1 (length all)) [
+      | inl h ↦ h
+      | inr few ↦ absurd (shared (few_apart m (filter is_override events) (omega (arith, few, both, length-map all component_of))))
+    ]
 
 -- ---- instants
 

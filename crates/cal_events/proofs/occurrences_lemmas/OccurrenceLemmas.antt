@@ -1,12 +1,14 @@
 -- The times of RDATE and EXDATE, read one after another.
 -- Cited by SaidInstants::add, SaidInstants::add_line, SaidInstants::read.
 use Rattle.std.proofs.Common.{◌≡◌, ◌≢◌, ◌∙◌, ℕ, ◌+◌, ◌<◌, ◌≤◌, true, false, ◌==◌, List, [], ◌∷◌, ◌++◌, length, map, sym, ap, subst, refl, inl, inr, append_assoc, append-nil, length-append, arith}
-use Rattle.std.specs.Prelude.{◌⊎◌}
+use Rattle.std.specs.Prelude.{◌⊎◌, Contains, IfSome, Option, Some, is_some}
 use Rattle.std.specs.List.{AllZip, slice_split, flat_map}
 use Rattle.std.proofs.lemmas.Bool.{true≢false}
 use Rattle.std.proofs.lemmas.List.{map-append, length-map}
 use Rattle.std.proofs.lemmas.List.Elements.{Contains-append_left, Contains-push}
-use Rattle.ical_lines.specs.Fault.{RefusesBy}
+use Rattle.ical_lines.specs.Fault.{RefusesBy, RefusesWhere}
+use Rattle.ical_lines.specs.Text.{line_text, numbered}
+use Rattle.ical_lines.specs.declared.line.Line.{Line}
 use Rattle.ical_lines.specs.declared.fault.Fault.{Fault}
 use Rattle.ical_lines.specs.declared.fault.Fault.TheVariants.{Refused, Memory}
 use Rattle.profile.specs.text.Lines.{line_value}
@@ -15,7 +17,17 @@ use Rattle.profile.specs.events.Properties.{is_of}
 use Rattle.profile.specs.events.ZonedTimes.{ZonedTextFault}
 use Rattle.profile.specs.events.Occurrences.{ListedTime, entries_of, entries_named, is_period, IsListed, IsInside, Lists, EntriesFault, in_entry, too_many}
 use Rattle.cal_events.specs.Times.{time_of}
-use Rattle.cal_events.specs.Occurrences.{SaysSo, AreListed}
+use Rattle.profile.specs.faults.Blame.{Numbered}
+use Rattle.profile.specs.series.ZoneBlame.{NumberedZone}
+use Rattle.profile.specs.events.EventBlame.{EventBlame, IsSomeWrong, IsWrong, may_have, texts_of, together}
+use Rattle.profile.specs.events.EventComponents.{Method}
+use Rattle.cal_events.specs.Property.{property_said, IsLineOf}
+use Rattle.cal_events.specs.Occurrences.{SaysSo, AreListed, IsListLine, ListedBlame, name_of}
+use Rattle.cal_events.specs.declared.occurrences.Listing.{Listing}
+use Rattle.cal_events.specs.declared.occurrences.Listing.TheVariants.{Additions, Exceptions}
+use Rattle.cal_events.specs.declared.property.Property.{Property}
+use Rattle.cal_events.specs.declared.property.Property.TheVariants.{Rdate, Exdate}
+use Rattle.cal_events.proofs.shared_lemmas.BlameLemmas.{text_blamed}
 use Rattle.cal_events.specs.declared.occurrences.SaidInstant.{SaidInstant}
 use Rattle.cal_events.specs.declared.occurrences.SaidInstants.{SaidInstants}
 use Rattle.cal_events.proofs.shared_lemmas.EventLemmas.{push_zip, one_more, one_other}
@@ -28,7 +40,7 @@ Lines = List (List ℕ)
 
 -- it was read, and is in the dates, or isn't
 abbrev pub IsKept : SaidInstants → SaidInstant → SaidInstants → Type 0
-IsKept old said new = ((said.in_dates ≡ true) × (new.in_dates ≡ old.in_dates)) ⊎ ((said.in_dates ≡ false) × (new.in_dates ≡ false))
+IsKept old said new = ((said.in_dates ≡ true) × (new.outside ≡ old.outside)) ⊎ ((said.in_dates ≡ false) × (is_some new.outside ≡ true))
 
 module _ (object : Tree) (name line text : List ℕ) (done : List ListedTime) (old : SaidInstants) (a : AreListed object name done old) where
   abbrev pub grown : List ListedTime
@@ -54,11 +66,11 @@ module _ (object : Tree) (name line text : List ℕ) (done : List ListedTime) (o
       lists = listed;
       inside = λ h. subst (AllZip (IsInside object) grown) (sym more_said)
           (push_zip (IsInside object) done (map time_of old.times.items) (line, text) (time_of said.time) (a.inside (sym same ∙ h)) (says.0, says.1, says.2, says.3, says.4.0 is));
-      outside = λ h. let o = a.outside (sym same ∙ h) in (o.0, Contains-append_left done ((line, text) ∷ []) o.0 o.1, o.2);
+      outside = λ h. let o = a.outside (ap is_some (sym same) ∙ h) in (o.0, Contains-append_left done ((line, text) ∷ []) o.0 o.1, o.2);
     }
     one_listed (inr (not, now)) = record {
       lists = listed;
-      inside = λ h. absurd (true≢false (sym h ∙ now));
+      inside = λ h. absurd (true≢false (sym now ∙ ap is_some h));
       outside = λ h. ((line, text), Contains-push done (line, text), (time_of said.time, says.0, says.1, says.2, says.3, λ d. true≢false (sym (says.4.1 d) ∙ not)));
     }
 
@@ -123,3 +135,34 @@ pub other_next : (name : List ℕ) (all left rest : Lines) (line : List ℕ) (do
     → is_of name line ≡ false → entries_named name all ≡ done ++ entries_named name rest
 other_next name all left rest line done e s h =
     e ∙ ap (λ ls. done ++ entries_named name ls) s ∙ ap (λ ls. done ++ flat_map entries_of ls) (one_other name line rest h)
+
+-- ---- at which lines
+
+pub list_line : (listing : Listing) (event : Numbered) (line : Line) → Contains event.lines (numbered line) → is_of (name_of listing) (line_text line) ≡ true
+    → IsListLine listing event line.number
+list_line Additions event line among named = record { line = line_text line; among = among; holds = named }
+list_line Exceptions event line among named = record { line = line_text line; among = among; holds = named }
+
+-- the first that is outside, with the times of one more line
+pub outside_next : (listing : Listing) (event : Numbered) (at : ℕ) (old new : Option ℕ) → IsListLine listing event at → (new ≡ old) ⊎ (new ≡ Some at)
+    → IfSome old (IsListLine listing event) → IfSome new (IsListLine listing event)
+outside_next listing event at old new here (inl same) h = subst (λ o. IfSome o (IsListLine listing event)) (sym same) h
+outside_next listing event at old new here (inr now) h = subst (λ o. IfSome o (IsListLine listing event)) (sym now) here
+
+abbrev pub IsBlamedText : List NumberedZone → List ℕ → ℕ × List ℕ → ℕ → ℕ → Type 0
+IsBlamedText zones name line n at = (text : List ℕ) × Contains (texts_of line.1) text × ListedBlame zones name line text n at
+
+module _ (m : Option Method) (zones : List NumberedZone) (event : Numbered) (line : Line) where
+  by_property : (name : List ℕ) (property : Property) → may_have (property_said property) 56 ≡ true
+      → ((n : ℕ) → IsSomeWrong name (line_text line) n → IsWrong (property_said property) (line_text line) n) → IsLineOf property event line
+      → (f : Fault) → RefusesWhere (IsBlamedText zones name (numbered line)) f → RefusesWhere (EventBlame m zones event) f
+  by_property name property may wrong is Memory h = tt
+  by_property name property may wrong is (Refused r) (text, there, inl (here, number)) =
+      rw (here, number) (together (property_said property) may (record { line = line_text line; among = is.0; holds = is.1 }))
+  by_property name property may wrong is (Refused r) (text, there, inr (plain, blame)) =
+      text_blamed m zones property event line is text r (λ time. wrong r.number (text, there, inr (plain, time))) blame
+
+  pub entry_blamed : (listing : Listing) → Contains event.lines (numbered line) → is_of (name_of listing) (line_text line) ≡ true → (f : Fault)
+      → RefusesWhere (IsBlamedText zones (name_of listing) (numbered line)) f → RefusesWhere (EventBlame m zones event) f
+  entry_blamed Additions among named = by_property (name_of Additions) Rdate refl (λ n h. h) (among, named)
+  entry_blamed Exceptions among named = by_property (name_of Exceptions) Exdate refl (λ n h. h) (among, named)

@@ -1,6 +1,6 @@
 -- The instances of a meeting that an object says in a room are those that its VEVENTs have on the clocks of the zones that a room reads in it.
 -- Behind instances_are_on_clocks.
-use Rattle.std.proofs.Common.{◌≡◌, ◌∙◌, ℕ, Bool, true, false, List, [], ◌∷◌, codes, subst, sym, refl, ap, inl, inr, ◌⊎◌, arith, ℤ, pos, ◌+ℤ◌, zero, suc, filter, cond}
+use Rattle.std.proofs.Common.{◌≡◌, ◌∙◌, ℕ, Bool, true, false, List, [], ◌∷◌, codes, subst, sym, refl, ap, inl, inr, ◌⊎◌, arith, ℤ, pos, ◌+ℤ◌, zero, filter, cond}
 use Rattle.std.specs.Prelude.{◌↔◌, Option, Some, None, Contains, is_some, unwrap_or, not}
 use Rattle.std.specs.Option.{option_to_list}
 use Rattle.std.specs.List.{AllZip}

@@ -1,6 +1,6 @@
 -- The events of one UID, and what two of them are.
 -- Cited by entries_of of blamed, are_twins of blamed, faulty_uid of blamed, uid_in of blamed, twin_uid of blamed.
-use Rattle.std.proofs.Common.{◌≡◌, ◌∙◌, ℕ, ◌+◌, ◌<◌, Bool, true, false, cond, List, [], ◌∷◌, ◌++◌, map, filter, take, get_or, length, sym, refl, ap, subst, inl, inr}
+use Rattle.std.proofs.Common.{◌≡◌, ◌∙◌, ℕ, ◌+◌, ◌<◌, Bool, true, false, cond, List, [], ◌∷◌, ◌++◌, map, take, get_or, length, sym, refl, ap, subst, inl, inr}
 use Rattle.std.specs.Prelude.{◌≢◌, AllPairs, MatchBool, IsTrue, Option, Some, None, Result, Ok, Err, IfOk, IfSome}
 use Rattle.std.specs.Str.{bytes_eq}
 use Rattle.std.proofs.lemmas.Bool.{false≢true}

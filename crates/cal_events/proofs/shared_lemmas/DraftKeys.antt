@@ -1,8 +1,8 @@
 -- The keys of masters and overrides: no two are one exactly where no two masters are of one meeting, and no two overrides for one instance.
 -- Cited by Draft::into_calendar of draft, keys_of_masters of draft, keys_of_overrides of draft, candidates of single_starts, is_on_rule of single_starts.
-use Rattle.std.proofs.Common.{◌≡◌, ◌≢◌, ◌∙◌, ℕ, zero, suc, ◌+◌, ◌<◌, true, false, List, [], ◌∷◌, ◌++◌, map, take, length, get_or, subst, sym, refl, ap, arith, ℤ, pos}
+use Rattle.std.proofs.Common.{◌≡◌, ◌≢◌, ◌∙◌, ℕ, zero, suc, ◌+◌, ◌<◌, ◌≤◌, inl, inr, true, false, List, [], ◌∷◌, ◌++◌, map, take, length, get_or, subst, sym, refl, ap, arith, ℤ, pos}
 use Rattle.std.specs.Prelude.{Option, Some, None, AllPairs, Contains, is_some}
-use Rattle.std.proofs.lemmas.Bool.{true≢false}
+use Rattle.std.proofs.lemmas.Bool.{cases_lt, true≢false}
 use Rattle.std.specs.List.{filter_map, cons_option}
 use Rattle.std.proofs.lemmas.Option.{same_Some}
 use Rattle.std.proofs.lemmas.List.{map-append, take_more, append-nil, get_or_default}
@@ -30,6 +30,22 @@ module _ (f : Name → Option Key) (names : List Name) (i : ℕ) (w : i < length
   pub key_passed : (new : List InstanceKey) → f (name_at names i) ≡ None → new ≡ keys → map key_of new ≡ filter_map f (take (i + 1) names)
   key_passed new h n =
       ap (map key_of) n ∙ so_far ∙ sym (append-nil (filter_map f (take i names))) ∙ ap (λ o. filter_map f (take i names) ++ cons_option o []) (sym h) ∙ sym more
+
+-- two that differ are two keys
+fewer : (f : Name → Option Key) (names : List Name) → length (filter_map f names) ≤ length names
+fewer f [] = omega arith
+fewer f (x ∷ names) = go (f x) (fewer f names)
+  where
+    go : (found : Option Key) → length (filter_map f names) ≤ length names → length (cons_option found (filter_map f names)) ≤ suc (length names)
+    go None h = omega (arith, h)
+    go (Some k) h = omega (arith, h)
+
+pub two_keys : (f : Name → Option Key) (names : List Name) → (AllPairs ◌≢◌ (filter_map f names) → ⊥) → 1 < length names
+two_keys f names twins =
+    elim (cases_lt 1 (length names)) [
+      | inl h ↦ h
+      | inr few ↦ absurd (twins (λ i j d l w. absurd (omega (arith, l, w, few, fewer f names))))
+    ]
 
 pub none_there : {X : Type 0} (o : Option X) → is_some o ≡ false → o ≡ None
 none_there None h = refl

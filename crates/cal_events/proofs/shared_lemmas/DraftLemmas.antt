@@ -84,12 +84,13 @@ module _ (room : List ℕ) (events : List EventComponent) (event : EventComponen
   as_many : length old.entries ≡ length events
   as_many = ap length draft.entries ∙ length-map events name_said
 
-  pub draft_more : IsSaid event → (own : List Single) → new.entries ≡ old.entries ++ name_said event ∷ [] → new.singles.items ≡ old.singles.items ++ own
+  pub draft_more : IsSaid event → (own : List Single) → new.entries ≡ old.entries ++ name_said event ∷ [] → (at : ℕ) → new.begins.items ≡ old.begins.items ++ at ∷ [] → new.singles.items ≡ old.singles.items ++ own
       → AreOwnAt room (length old.entries) event own → map component_of new.series.items ≡ map component_of old.series.items ++ cond (is_series room event) (event ∷ []) []
       → IsNaming room (events ++ event ∷ []) new.naming → IsDraft room (events ++ event ∷ []) new
-  draft_more spoken own e s at series naming = record {
+  draft_more spoken own e begun b s at series naming = record {
     said = All-append IsSaid events (event ∷ []) draft.said (λ k d w. first_said k d w);
     entries = e ∙ ap (λ l. l ++ name_said event ∷ []) draft.entries ∙ sym (map-append name_said events (event ∷ []));
+    begins = ap length b ∙ length-append old.begins.items (begun ∷ []) ∙ ap (λ n. n + 1) draft.begins ∙ sym (length-append events (event ∷ []));
     series = series ∙ ap (λ l. l ++ cond (is_series room event) (event ∷ []) []) draft.series ∙ sym (filter-append (is_series room) events (event ∷ []));
     singles =
         subst (AreDrawn room 0 (events ++ event ∷ [])) (sym s)

@@ -1,6 +1,6 @@
 -- The octets of a content: its lines, and then its zone, which begins with the first line that begins one. And its lines under the name of the zone.
 -- Cited by zone_lines.
-use Rattle.std.proofs.Common.{◌≡◌, ◌∙◌, refl, sym, ap, subst, ℕ, ◌+◌, ◌-◌, ◌<◌, ◌≤◌, Bool, true, false, not, ◌&&◌, cond, ℤ, List, [], ◌∷◌, ◌++◌, map, length, take, drop, get_or, unwrap_or, codes, Option, None, Some, arith, append_assoc, append-nil}
+use Rattle.std.proofs.Common.{◌≡◌, ◌∙◌, refl, sym, ap, subst, ℕ, ◌+◌, ◌<◌, ◌≤◌, Bool, true, false, not, cond, ℤ, List, [], ◌∷◌, ◌++◌, map, length, take, drop, get_or, unwrap_or, codes, Option, None, Some, arith, append_assoc, append-nil}
 use Rattle.std.specs.Prelude.{◌==◌}
 use Rattle.std.specs.List.{list_all, flat_map, AllZip, position_or_len}
 use Rattle.std.specs.Str.{IsUtf8}

@@ -1,6 +1,6 @@
 -- The names Z1, Z2, .. of zones: text without escapes, no two alike.
 -- Behind refreshes_are_heard of law, replies_are_heard of law, requests_read_back of sent_law, shown_reads_back of sent_law, stored_texts_can_be_sent of sent_law.
-use Rattle.std.proofs.Common.{◌≤◌, ◌≡◌, ◌∙◌, refl, ap, ℕ, ◌+◌, ◌<◌, ◌^◌, Bool, true, false, not, ◌&&◌, ◌||◌, cond, List, [], ◌∷◌, ◌++◌, drop, codes, Option, None, Some, arith}
+use Rattle.std.proofs.Common.{◌≡◌, ◌∙◌, refl, ap, ℕ, ◌+◌, ◌<◌, ◌^◌, Bool, true, false, not, ◌&&◌, ◌||◌, cond, List, [], ◌∷◌, ◌++◌, drop, codes, Option, None, Some, arith}
 use Rattle.std.specs.Prelude.{◌==◌, unwrap_or, option_map, filter}
 use Rattle.std.specs.Option.{option_to_list}
 use Rattle.std.specs.List.{list_all, find}

@@ -1,6 +1,7 @@
--- With which number octets are refused where their lines have several faults (RFC 5545 3.1); the order is this profile's choice.
-use Rattle.std.specs.Prelude.{ℕ, Bool, true, false, ◌&&◌, ◌==◌, nat_lt, List, [], ◌∷◌, length, take, Option, None, Some, if◌then◌else◌}
-use Rattle.std.specs.List.{find}
+-- With which number octets are refused where their lines have several faults, and which line is meant (RFC 5545 3.1); the order is this profile's
+-- choice.
+use Rattle.std.specs.Prelude.{ℕ, ◌+◌, Bool, false, not, ◌&&◌, ◌==◌, nat_lt, List, [], ◌∷◌, length, take, Option, None, Some, if◌then◌else◌}
+use Rattle.std.specs.List.{find, prefix_len}
 use Rattle.std.specs.Str.{is_utf8}
 use Rattle.profile.specs.text.Lines.{logical_lines, ended, line_has, is_faulty, most_octets, most_lines}
 
@@ -31,3 +32,15 @@ text_fault bounded octets =
 abbrev pub is_number : Option ℕ → ℕ → Bool
 is_number None number = false
 is_number (Some first) number = first == number
+
+-- the number of the first faulty line, from 1; where none of the judged ones is faulty, that of the first line past them
+abbrev pub lines_place : Bool → List (List ℕ) → ℕ
+lines_place bounded lines = 1 + prefix_len (λ line. not (is_faulty line)) (judged bounded lines)
+
+-- the number of the logical line that refused octets are refused at: none, which is 0, where they are too many; the first that isn't UTF-8; else
+-- that of their lines
+abbrev pub text_place : Bool → List ℕ → ℕ
+text_place bounded octets =
+    if bounded && nat_lt most_octets (length octets) then 0
+    else (if is_utf8 (ended (logical_lines octets)) then lines_place bounded (logical_lines octets)
+    else 1 + prefix_len is_utf8 (logical_lines octets))

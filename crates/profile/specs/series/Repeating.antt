@@ -1,6 +1,6 @@
 -- Series in the abstract: a relation that says of two instants whether an instance lasts from the one to the other. No calendar, rule or zone
 -- is in it. A series without end is settled by what it does in one period: what starts later was there a period before, as long.
-use Rattle.std.specs.Prelude.{◌≡◌, ℕ, ◌*◌, ℤ, pos, ◌+ℤ◌, ◌-ℤ◌, ◌≤ℤ◌, ◌<ℤ◌}
+use Rattle.std.specs.Prelude.{◌≡◌, ℕ, ◌*◌, ℤ, pos, ◌+ℤ◌, ◌-ℤ◌, ◌≤ℤ◌}
 use Rattle.profile.specs.checker.Instances.{IsWithin}
 
 -- each instance that starts a period after this instant or later was there a period before

@@ -2,6 +2,7 @@ use Rattle.std.proofs.Common.{◌≡◌, ◌+◌, ◌∷◌, [], ap, drop, map, 
 use Rattle.std.proofs.lemmas.List.{drop_all}
 use Rattle.ical_lines.specs.Text.{line_text}
 use Rattle.ical_tree.proofs.OneLine.{at_place}
+use Rattle.ical_tree.specs.Own.{own_lines}
 use Rattle.cal_zones.proofs.Reading.{fault_exit}
 use Rattle.cal_doors.specs.Runs.{runs_in}
 use Rattle.cal_doors.specs.Reading.{LineFault, DatesFault}
@@ -11,11 +12,11 @@ use Rattle.cal_doors.proofs.part.add_dates.Goals.{then-is_named+in_ok-add_line, 
 
 pub loop-line-init : goal.loop-line-init
 loop-line-init c =
-    none_passed c.args.times.now.from c.args.times.now.to c.args.properties.now (map line_text c.lines-line-items.result.now) (runs_in c.args.runs.now.items) c.lines-line-items.ensures
+    none_passed c.args.times.now.from c.args.times.now.to (own_lines c.args.properties.now) (map line_text c.lines-line-items.result.now) (runs_in c.args.runs.now.items) (ap (map line_text) c.lines-line-items.ensures)
 
 pub returns-in_err-add_line-clause-fault : goal.returns-in_err-add_line-clause-fault
 returns-in_err-add_line-clause-fault c =
-    let all = c.args.properties.now in
+    let all = own_lines c.args.properties.now in
     let items = c.lines-line-items.result.now in
     let i = c.loop-line.line-index in
     let x = c.line-item.result in
@@ -28,7 +29,7 @@ returns-in_err-add_line-clause-fault c =
 
 pub loop-line-preserved : goal.loop-line-preserved
 loop-line-preserved c =
-    let all = c.args.properties.now in
+    let all = own_lines c.args.properties.now in
     let from = c.args.times.now.from in
     let to = c.args.times.now.to in
     let old = runs_in c.args.runs.now.items in
@@ -49,4 +50,4 @@ returns-clause-adds c =
     let items = c.lines-line-items.result.now in
     let left = map line_text (drop c.loop-line.line-index items) in
     let none : left ≡ [] = ap (map line_text) (drop_all c.loop-line.line-index items c.loop-line-test.false) in
-    lines_added c.args.times.now.from c.args.times.now.to c.args.properties.now left (runs_in c.args.runs.now.items) (runs_in c.loop-line.runs.items) c.loop-line.invariant none
+    lines_added c.args.times.now.from c.args.times.now.to (own_lines c.args.properties.now) left (runs_in c.args.runs.now.items) (runs_in c.loop-line.runs.items) c.loop-line.invariant none

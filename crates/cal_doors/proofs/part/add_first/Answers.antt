@@ -1,7 +1,7 @@
 use Rattle.std.proofs.Common.{◌≡◌, codes, map, sym, subst, refl, ℕ, List, Some}
 use Rattle.ical_lines.specs.Fault.{RefusesBy}
 use Rattle.ical_lines.specs.Text.{line_text}
-use Rattle.ical_lines.specs.declared.fault.Refusal.{Refusal}
+use Rattle.ical_tree.specs.Own.{own_lines}
 use Rattle.profile.specs.text.Values.{IsClockSeconds}
 use Rattle.profile.specs.series.Days.{day_index}
 use Rattle.profile.specs.events.Properties.{OccursAtMostOnce, IsMissing}
@@ -16,20 +16,20 @@ use Rattle.cal_doors.proofs.part.add_first.Goals as goal
 
 pub returns-in_err-line-clause-fault : goal.returns-in_err-line-clause-fault
 returns-in_err-line-clause-fault c =
-    let lines = c.args.properties.now in
+    let lines = own_lines c.args.properties.now in
     err_exit _ (RefusesBy (RunsFault lines)) _ c.from_residual.ensures.1
-    (subst (λ (e : Refusal). RunsFault lines e.number) (sym c.in_err-line.ensures.refuses) (two_rules c.in_err-line.ensures.twice))
+    (subst (RunsFault lines) (sym c.in_err-line.ensures.refuses) (two_rules c.in_err-line.ensures.twice))
 
 pub returns-in_default-clause-adds : goal.returns-in_default-clause-adds
 returns-in_default-clause-adds c =
-    let lines = c.args.properties.now in
+    let lines = own_lines c.args.properties.now in
     let t = c.args.times.now in
     let none : IsMissing (codes "RRULE") lines = rw c.in_default.is at c.in_ok-line.ensures.found in
     once_first lines t.start t.from t.to c.args.runs.now.items c.push.new.self.items c.once.result (c.once.ensures.run (with_offsets t.from t.to) refl refl) none c.in_ok-push.ensures.items
 
 pub returns-in_err-rule-clause-fault : goal.returns-in_err-rule-clause-fault
 returns-in_err-rule-clause-fault c =
-    let lines = c.args.properties.now in
+    let lines = own_lines c.args.properties.now in
     let t = c.args.times.now in
     let line = line_text c.in-Some.line in
     let range = subst IsClockSeconds c.seconds.ensures.value c.seconds.ensures.range in
@@ -42,17 +42,17 @@ pub add_yearly-requires : goal.add_yearly-requires
 add_yearly-requires c =
     let t = c.args.times.now in
     let range = subst IsClockSeconds c.seconds.ensures.value c.seconds.ensures.range in
-    each_year c.args.properties.now t.start t.from t.to c.value.result.now c.in-Yearly.rule range (rw c.in-Yearly.is at c.in_ok-rule.ensures.says)
+    each_year (own_lines c.args.properties.now) t.start t.from t.to c.value.result.now c.in-Yearly.rule range (rw c.in-Yearly.is at c.in_ok-rule.ensures.says)
 
 pub add_days-requires : goal.add_days-requires
 add_days-requires c =
     let t = c.args.times.now in
     let range = subst IsClockSeconds c.seconds.ensures.value c.seconds.ensures.range in
-    rw c.as_slice.ensures.value (days_bound c.args.properties.now t.start t.from t.to c.value.result.now (map day_index c.in-Listed.days.items) range (rw c.in-Listed.is at c.in_ok-rule.ensures.says))
+    rw c.as_slice.ensures.value (days_bound (own_lines c.args.properties.now) t.start t.from t.to c.value.result.now (map day_index c.in-Listed.days.items) range (rw c.in-Listed.is at c.in_ok-rule.ensures.says))
 
 pub returns-in_ok-add_yearly-in-Yearly-clause-adds : goal.returns-in_ok-add_yearly-in-Yearly-clause-adds
 returns-in_ok-add_yearly-in-Yearly-clause-adds c =
-    let lines = c.args.properties.now in
+    let lines = own_lines c.args.properties.now in
     let t = c.args.times.now in
     let line = line_text c.in-Some.line in
     let there : OccursAtMostOnce (codes "RRULE") lines (Some line) = rw c.in-Some.is at c.in_ok-line.ensures.found in
@@ -61,7 +61,7 @@ returns-in_ok-add_yearly-in-Yearly-clause-adds c =
 
 pub returns-in_ok-add_days-in-Listed-clause-adds : goal.returns-in_ok-add_days-in-Listed-clause-adds
 returns-in_ok-add_days-in-Listed-clause-adds c =
-    let lines = c.args.properties.now in
+    let lines = own_lines c.args.properties.now in
     let t = c.args.times.now in
     let line = line_text c.in-Some.line in
     let range = subst IsClockSeconds c.seconds.ensures.value c.seconds.ensures.range in

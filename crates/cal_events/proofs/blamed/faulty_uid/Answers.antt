@@ -18,6 +18,6 @@ returns-in-Some c =
     let same = c.children-component-items.ensures in
     let within = subst (λ (l : List Component). i < length l) same c.loop-component-test.true in
     let here = subst (λ (l : List Component). x ≡ get_or l i x) same c.component-item.is in
-    let among = subst (λ vs. Contains vs (component_lines x)) (sym (vevents_tree object)) (is_among all i x within here (sym c.if-is_named.ensures)) in
+    let among = subst (λ vs. Contains vs (component_lines x)) (sym (vevents_tree object)) (is_among component_lines all i x within here (sym c.if-is_named.ensures)) in
     for_event (component_lines x) among (subst (λ t. HasFaultWith t (text_octets c.in-Some.uid) c.args.number (component_lines x)) (ap tree_of c.in_ok-zones.ensures.object)
     (subst (λ found. IfSome found (λ uid. HasFaultWith (object_of c.in_ok-zones.zones) (text_octets uid) c.args.number (component_lines x))) c.in-Some.is c.in_ok-uid.ensures))

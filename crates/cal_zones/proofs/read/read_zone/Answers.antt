@@ -1,21 +1,30 @@
 use Rattle.std.proofs.Common.{◌≡◌, sym, subst, ℤ, to_z, of_z, w32, Some, None}
-use Rattle.ical_tree.specs.Tree.{component_lines, component_children}
+use Rattle.ical_tree.specs.Tree.{component_name, component_lines, component_children, numbered_of, zone_of_component}
 use Rattle.profile.specs.series.Zones.{Zone}
-use Rattle.profile.specs.series.ZoneTexts.{is_part, PartsSay, KeepsOffset, Strays, TimesFault, no_part, in_part, constant}
+use Rattle.profile.specs.series.ZoneTexts.{is_part, PartsSay, KeepsOffset, Strays, TimesFault, no_part, constant}
+use Rattle.profile.specs.series.ZoneTexts as texts
 use Rattle.cal_zones.specs.Onsets.{observance_of}
 use Rattle.cal_zones.specs.Read.{HasZoneFault, SomeTimesFault, zone_parts, standards_of, daylights_of}
 use Rattle.cal_zones.proofs.Casts.{narrow}
+use Rattle.cal_zones.proofs.Blamed.{where_exit, in_part}
 use Rattle.cal_zones.proofs.Reading.{fault_exit, some_times_fault}
-use Rattle.cal_zones.proofs.PartLemmas.{found_in, nothing_in}
+use Rattle.profile.specs.series.ZoneBlame.{PartBlame, ZoneBlame}
+use Rattle.cal_zones.proofs.PartLemmas.{found_in, find_among, nothing_in}
 use Rattle.cal_zones.proofs.read.read_zone.Goals as goal
 
 pub returns-in_default-clause-fault : goal.returns-in_default-clause-fault
-returns-in_default-clause-fault c = no_part (nothing_in is_part (component_children c.args.zone.now) None c.in_default.ensures)
+returns-in_default-clause-fault c = rw c.at.ensures (no_part (nothing_in is_part (component_children c.args.zone.now) None c.in_default.ensures))
 
 pub returns-in_err-first-clause-fault : goal.returns-in_err-first-clause-fault
 returns-in_err-first-clause-fault c =
     let part = component_lines c.in-Some.part.now in
-    fault_exit _ (HasZoneFault c.args.zone.now) (TimesFault part) _ (λ n h. in_part part (found_in is_part (component_children c.args.zone.now) (Some c.in-Some.part) c.in-Some.ensures) h) c.from_residual.ensures.1 c.in_err-first.ensures.fault
+    fault_exit _ (HasZoneFault c.args.zone.now) (TimesFault part) _ (λ n h. texts.in_part part (found_in is_part (component_children c.args.zone.now) (Some c.in-Some.part) c.in-Some.ensures) h) c.from_residual.ensures.1 c.in_err-first.ensures.fault
+
+pub returns-in_err-first-clause-at : goal.returns-in_err-first-clause-at
+returns-in_err-first-clause-at c =
+    let zone = c.args.zone.now in
+    let part = c.in-Some.part.now in
+    where_exit _ (ZoneBlame (zone_of_component zone)) (PartBlame (numbered_of part)) _ (λ n at h. in_part zone part n at (find_among (λ c. is_part (component_name c)) (component_children zone) part (sym c.in-Some.ensures)) h) c.from_residual.ensures.1 c.in_err-first.ensures.at
 
 pub returns-in_err-all_keep-clause-fault : goal.returns-in_err-all_keep-clause-fault
 returns-in_err-all_keep-clause-fault c =

@@ -12,7 +12,7 @@ returns-in-Some-clause-found c =
     let part = c.component-item.result in
     let within : c.loop-place.place < length children = search rules in
     let here : part ≡ get_or children c.loop-place.place part = search rules in
-    times_at c.args.zone.now children c.loop-place.place part c.with.result c.in-Some.cause c.children-component-items.ensures within here (sym c.is_part.ensures ∙ c.if-is_part.true) c.with.ensures.name c.with.ensures.cause c.in-Some.ensures.found
+    times_at c.args.zone.now children c.loop-place.place part c.with.result c.in-Some.cause c.children-component-items.ensures within here (sym c.is_part.ensures ∙ c.if-is_part.true) c.with.ensures.component c.with.ensures.cause c.in-Some.ensures.found
 
 pub loop-place-preserved : goal.loop-place-preserved
 loop-place-preserved c =

@@ -6,13 +6,13 @@ use Rattle.fault_places.proofs.obstacle.shape_cause.Goals as goal
 pub returns-in-Some-second_part : goal.returns-in-Some-second_part
 returns-in-Some-second_part c =
     let part = c.in-Some-second_part in
-    second_standard c.args.zone.now part.part.component.now c.itself.result c.requires c.in_default.ensures.none part.ensures.found c.itself.ensures.name c.itself.ensures.obstacle c.itself.ensures.line
+    second_standard c.args.zone.now part.part.component.now c.itself.result c.requires c.in_default.ensures.none part.ensures.found c.itself.ensures.component c.itself.ensures.obstacle c.itself.ensures.line
 
 pub returns-in-Some-second_part-2 : goal.returns-in-Some-second_part-2
 returns-in-Some-second_part-2 c =
     let part = c.in-Some-second_part-2 in
     let is = c.itself-in-Some-second_part-2 in
-    second_daylight c.args.zone.now part.part.component.now is.result c.requires c.in_default.ensures.none part.ensures.found is.ensures.name is.ensures.obstacle is.ensures.line
+    second_daylight c.args.zone.now part.part.component.now is.result c.requires c.in_default.ensures.none part.ensures.found is.ensures.component is.ensures.obstacle is.ensures.line
 
 pub returns-in_default-first_part : goal.returns-in_default-first_part
 returns-in_default-first_part c =

@@ -10,7 +10,7 @@ returns c =
     let other = c.args.other.component.now in
     let line = line_text c.in_ok-line.line in
     let differ : c.seconds.result ≡ c.seconds-2.result → ⊥ = search rules in
-    has_unmatched part other c.with.result c.at.result line c.with.ensures.name c.with.ensures.cause c.at.ensures.obstacle c.at.ensures.line
+    has_unmatched part other c.with.result c.at.result line c.with.ensures.component c.with.ensures.cause c.at.ensures.obstacle c.at.ensures.line
     (is_unmatched (component_lines part) (component_lines other) line (line_text c.in_ok-others.others) c.value.result.now c.value-2.result.now c.read.result c.read-2.result c.in_ok-from.from c.in_ok-to.to c.seconds.result c.seconds-2.result
     c.in_ok-line.ensures.found c.in_ok-others.ensures.found c.value.ensures c.value-2.ensures c.read.ensures.reads c.read-2.ensures.reads c.in_ok-from.ensures.value c.in_ok-to.ensures.value
     c.seconds.ensures.value c.seconds-2.ensures.value differ)

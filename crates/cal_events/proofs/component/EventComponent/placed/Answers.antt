@@ -1,3 +1,4 @@
+use Rattle.std.proofs.Common.{refl}
 use Rattle.cal_events.specs.Component.{component_of}
 use Rattle.cal_zones.specs.RoomZones.{words_of, room_of}
 use Rattle.cal_events.proofs.component_lemmas.PlacedTimes.{times_placed, times_steady, times_named, times_said}
@@ -16,4 +17,4 @@ invariant_of-result c =
     }
 
 pub returns : goal.returns
-returns c = times_placed (room_of c.args.room.now) (component_of c.args.self) c.in_ok-times.field-0 c.in_ok-times.ensures
+returns c = (times_placed (room_of c.args.room.now) (component_of c.args.self) c.in_ok-times.field-0 c.in_ok-times.ensures, refl)

@@ -1,31 +1,43 @@
-use Rattle.std.proofs.Common.{List, refl, map, sym, subst, inl, inr}
+use Rattle.std.proofs.Common.{◌∙◌, List, ap, length, map, sym, subst, inl, inr}
 use Rattle.std.specs.List.Sorted.{IsPermutation}
 use Rattle.std.proofs.lemmas.List.Sorted.{IsPermutation-sym}
 use Rattle.ical_lines.specs.Fault.{RefusesBy}
 use Rattle.ical_values.proofs.Exits.{err_exit}
+use Rattle.ical_lines.specs.declared.fault.Refusal.{Refusal}
 use Rattle.profile.specs.events.Confirmed.{Confirmed}
+use Rattle.std.proofs.lemmas.List.{length-map}
+use Rattle.cal_events.specs.Names.{name_said}
 use Rattle.cal_events.specs.Calendar.{key_of, named_instance}
 use Rattle.cal_events.specs.Series.{series_said}
-use Rattle.cal_events.specs.Draft.{AreInOrder, master_keys, IsTwoOf}
+use Rattle.cal_events.specs.Draft.{AreInOrder, master_key, master_keys, IsTwoOf}
 use Rattle.cal_events.specs.declared.instance.InstanceKey.{InstanceKey}
 use Rattle.cal_events.proofs.draft_lemmas.KeyLemmas.{twins_of, no_twins_of, pairs_permutation}
 use Rattle.cal_events.proofs.shared_lemmas.ZonedLemmas.{weaker_fault}
 use Rattle.cal_events.proofs.draft_lemmas.CalendarKeys.{own_keys}
-use Rattle.cal_events.proofs.shared_lemmas.DraftKeys.{masters_there, there_masters, overrides_there, there_overrides}
+use Rattle.cal_events.proofs.shared_lemmas.DraftKeys.{two_keys, masters_there, there_masters, overrides_there, there_overrides}
 use Rattle.cal_events.proofs.shared_lemmas.DraftLemmas.{within_entries, masters_of, confirmed_of, left_within, different_keys}
 use Rattle.cal_events.proofs.draft.Draft.into_calendar.Goals as goal
+
+pub begin_of_twin-requires-clause-two : goal.begin_of_twin-requires-clause-two
+begin_of_twin-requires-clause-two c =
+    let entries = c.args.self.entries in
+    let sorted = c.in_ok-keys_of_masters.ensures.0 in
+    let same = subst (λ (l : List InstanceKey). IsPermutation (master_keys entries) (map key_of l)) (sym c.deref.ensures.value) sorted in
+    two_keys master_key entries
+    (λ differ. twins_of c.deref.result.now c.if-has_equal_neighbours.ensures (pairs_permutation (master_keys entries) (map key_of c.deref.result.now) same differ))
 
 pub returns-then-has_equal_neighbours-clause-fault : goal.returns-then-has_equal_neighbours-clause-fault
 returns-then-has_equal_neighbours-clause-fault c room events d =
     let entries = c.args.self.entries in
     let sorted = c.in_ok-keys_of_masters.ensures.0 in
     let same = subst (λ (l : List InstanceKey). IsPermutation (master_keys entries) (map key_of l)) (sym c.deref.ensures.value) sorted in
-    inl (refl, λ differ. twins_of c.deref.result.now c.if-has_equal_neighbours.ensures (pairs_permutation (master_keys entries) (map key_of c.deref.result.now) same (there_masters entries events d.entries differ)))
+    inl (ap (λ (e : Refusal). e.number) c.at.ensures, λ differ. twins_of c.deref.result.now c.if-has_equal_neighbours.ensures (pairs_permutation (master_keys entries) (map key_of c.deref.result.now) same (there_masters entries events d.entries differ)))
 
 pub shown-requires : goal.shown-requires
 shown-requires c =
     let d = c.requires in
     record {
+      begins = ap length c.deref-2.ensures.value ∙ d.2.begins ∙ sym (ap length d.2.entries ∙ length-map d.1 name_said);
       within = within_entries d.0 d.1 c.args.self d.2;
       masters = masters_of d.0 d.1 c.args.self d.2;
     }

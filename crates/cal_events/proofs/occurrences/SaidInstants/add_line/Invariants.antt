@@ -1,4 +1,4 @@
-use Rattle.std.proofs.Common.{◌≡◌, ◌++◌, ℕ, List}
+use Rattle.std.proofs.Common.{◌≡◌, ◌⊎◌, ◌++◌, ℕ, List, Some}
 use Rattle.ical_lines.specs.Text.{line_text}
 use Rattle.profile.specs.events.Occurrences.{ListedTime}
 use Rattle.cal_rules.proofs.Cuts.{Leaves}
@@ -13,3 +13,4 @@ invariant-loop-text l =
     (left : List (List ℕ)) × Leaves l.text-iterator left × (seen : List (List ℕ)) × (texts (line_text l.fn.line) ≡ seen ++ left)
     × ((done : List ListedTime) → AreListed (object_of l.fn.zones) (name_of l.fn.listing) done l.fn.self
     → AreListed (object_of l.fn.zones) (name_of l.fn.listing) (done ++ on_line (line_text l.fn.line) seen) l.self)
+    × ((l.self.outside ≡ l.fn.self.outside) ⊎ (l.self.outside ≡ Some l.fn.line.number))

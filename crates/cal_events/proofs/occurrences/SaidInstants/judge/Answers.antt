@@ -1,6 +1,7 @@
-use Rattle.std.proofs.Common.{rules}
+use Rattle.std.proofs.Common.{ap}
+use Rattle.std.specs.Prelude.{is_some}
 use Rattle.profile.specs.events.Occurrences.{additions_out}
 use Rattle.cal_events.proofs.occurrences.SaidInstants.judge.Goals as goal
 
-pub returns-then-not-self-clause-fault : goal.returns-then-not-self-clause-fault
-returns-then-not-self-clause-fault c object lines a added fixed = let out = a.outside (search rules) in additions_out out.0 out.1 out.2
+pub returns-in-Some-clause-fault : goal.returns-in-Some-clause-fault
+returns-in-Some-clause-fault c object lines a added fixed = let out = a.outside (ap is_some c.in-Some.is) in rw c.at.ensures (additions_out out.0 out.1 out.2)

@@ -1,6 +1,6 @@
 use Rattle.std.proofs.Common.{◌≡◌, true, sym, ◌∙◌}
 use Rattle.std.proofs.lemmas.Result.{err_from_is_err_and}
-use Rattle.ical_lines.specs.Text.{lines_left}
+use Rattle.ical_lines.specs.Text.{numbered_left}
 use Rattle.profile.specs.text.Objects.{is_property}
 use Rattle.ical_tree.proofs.FirstOctet.{neither, other_first}
 use Rattle.ical_tree.proofs.PairLemmas.{at_property, now_property}
@@ -22,7 +22,7 @@ returns-in_ok-add-in_default-clause-built c = λ done b.
       | in_default-via-in-Some-2+else-is_named-2 w ↦ neither c.args.text.now _ w.in-Some.ensures w.if-is_named.ensures w.if-is_named-2.ensures
       | in_default-via-in_default w ↦ other_first c.args.text.now w.in_default.ensures
     ] in
-    c.in_ok-add-in_default.ensures.built done c.args.text.now (lines_left c.args.rest) property c.requires.next b
+    c.in_ok-add-in_default.ensures.built done (c.args.rest.passed, c.args.text.now) (numbered_left c.args.rest) property c.requires.next b
 
 pub returns-in_ok-add-in_default-clause-names : goal.returns-in_ok-add-in_default-clause-names
 returns-in_ok-add-in_default-clause-names c =

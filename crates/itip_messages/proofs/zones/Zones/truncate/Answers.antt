@@ -1,4 +1,4 @@
-use Rattle.std.proofs.Common.{◌∙◌, ℕ, List, Vec, Global, map, take, ap, sym}
+use Rattle.std.proofs.Common.{◌∙◌, ℕ, Vec, Global, map, take, ap, sym}
 use Rattle.std.proofs.lemmas.List.{take-map}
 use Rattle.itip_messages.proofs.zones.Zones.truncate.Goals as goal
 
