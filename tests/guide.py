@@ -608,9 +608,9 @@ def explained_objects(cases, program):
         ("no address, behind a folded line", "15 at line 9: ATTENDEE", {7: folded, 8: "ATTENDEE:r1"}),
         ("the second attendee", "15 at line 9: ATTENDEE", {8: "ATTENDEE:mailto:r1@example.com|ATTENDEE:r2"}),
         ("a negative SEQUENCE", "16 at line 11: SEQUENCE", {10: "DURATION:PT1H|SEQUENCE:-1"}),
-        ("BEGIN without END", "21", {12: ""}),
+        ("BEGIN without END", "21 at line 1: BEGIN", {12: ""}),
         ("another VERSION", "24 at line 2: VERSION", {2: "VERSION:1.0"}),
-        ("no VERSION", "24", {2: ""}),
+        ("no VERSION", "24 at line 1: BEGIN", {2: ""}),
         ("an hourly rule", "30 at line 11: RRULE", {10: "DURATION:PT1H|RRULE:FREQ=HOURLY"}),
         ("month 13 in a rule", "31 at line 11: RRULE", {10: "DURATION:PT1H|RRULE:FREQ=YEARLY;BYMONTH=13"}),
         ("a rule without FREQ", "32 at line 11: RRULE", {10: "DURATION:PT1H|RRULE:COUNT=3"}),
@@ -618,13 +618,13 @@ def explained_objects(cases, program):
         ("a Monday isn't a Tuesday", "34 at line 11: RRULE", {10: "DURATION:PT1H|RRULE:FREQ=WEEKLY;BYDAY=TU"}),
         ("a zone without a part", "40 at line 4: BEGIN\nVTIMEZONE at line 4: neither STANDARD nor DAYLIGHT is in it. `roombox adapt` hands the object on as it is.", {4: "BEGIN:VTIMEZONE|TZID:Z|END:VTIMEZONE|BEGIN:VEVENT", 9: "DTSTART;TZID=Z:20250310T090000"}),
         ("a zone that isn't there", "43 at line 9: DTSTART", {9: "DTSTART;TZID=Europe/Berlin:20250310T090000"}),
-        ("two times in a zone that isn't there", "43", {9: "DTSTART;TZID=Europe/Berlin:20250310T090000", 10: "DTEND;TZID=Europe/Berlin:20250310T100000"}),
+        ("two times in a zone that isn't there", "43 at line 9: DTSTART", {9: "DTSTART;TZID=Europe/Berlin:20250310T090000", 10: "DTEND;TZID=Europe/Berlin:20250310T100000"}),
         ("DTEND before DTSTART", "50 at line 10: DTEND", {10: "DTEND:20250309T090000Z"}),
         ("a negative duration", "51 at line 10: DURATION", {10: "DURATION:-PT1H"}),
         ("367 days", "51 at line 10: DURATION", {10: "DURATION:P367D"}),
         ("a start in 1960", "52 at line 9: DTSTART", {9: "DTSTART:19600310T090000Z"}),
-        ("a start and an end in 1960", "52", {9: "DTSTART:19600310T090000Z", 10: "DTEND:19600310T100000Z"}),
-        ("two VEVENTs without RECURRENCE-ID", "53", {11: "|".join(["END:VEVENT", *OBJECT[3:11]])}),
+        ("a start and an end in 1960", "52 at line 9: DTSTART", {9: "DTSTART:19600310T090000Z", 10: "DTEND:19600310T100000Z"}),
+        ("two VEVENTs without RECURRENCE-ID", "53 at line 12: BEGIN", {11: "|".join(["END:VEVENT", *OBJECT[3:11]])}),
         ("a date with TZID", "11 at line 9: DTSTART", {9: "DTSTART;TZID=Europe/Berlin:20250310"}),
         ("eight digits as a date-time", "11 at line 9: DTSTART", {9: "DTSTART;VALUE=DATE-TIME:20250310"}),
         ("the last date", "52 at line 9: DTSTART", {9: "DTSTART;VALUE=DATE:99991231", 10: ""}),
@@ -636,7 +636,7 @@ def explained_objects(cases, program):
         ("PUBLISH", "60 at line 3: METHOD", {3: "METHOD:PUBLISH"}),
         ("no UID", "61 at line 4: BEGIN\nVEVENT at line 4: it has no UID.", {5: ""}),
         ("UID twice", "61 at line 6: UID\nVEVENT at line 4: UID occurs twice in it.", {5: "UID:a|UID:b"}),
-        ("two lines alike, of which the first is named", "61 at line 5: UID\nVEVENT at line 4: UID occurs twice in it.", {5: "UID:a|UID:a"}),
+        ("two lines alike", "61 at line 6: UID\nVEVENT at line 4: UID occurs twice in it.", {5: "UID:a|UID:a"}),
         ("no DTSTAMP", "61 at line 4: BEGIN\nVEVENT at line 4: it has no DTSTAMP.", {6: ""}),
         ("no DTSTART", "61 at line 4: BEGIN\nVEVENT at line 4: it has no DTSTART.", {9: ""}),
         ("no DTSTART in an ADD", "61 at line 4: BEGIN\nVEVENT at line 4: it has no DTSTART.", {3: "METHOD:ADD", 9: ""}),
@@ -646,7 +646,7 @@ def explained_objects(cases, program):
         ("SEQUENCE twice", "61 at line 12: SEQUENCE\nVEVENT at line 4: SEQUENCE occurs twice in it.", {10: "DURATION:PT1H|SEQUENCE:1|SEQUENCE:2"}),
         ("RRULE twice in an ADD", "61 at line 12: RRULE\nVEVENT at line 4: RRULE occurs twice in it.", {3: "METHOD:ADD", 10: "DURATION:PT1H|RRULE:FREQ=DAILY;COUNT=2|RRULE:FREQ=WEEKLY;COUNT=2"}),
         ("a VEVENT of its own name in lower case", "61 at line 4: begin\nvevent at line 4: it has no UID.", {4: "begin:vevent", 5: "", 11: "end:vevent"}),
-        ("DTEND beside DURATION", "61 at line 10: DURATION\nVEVENT at line 4: DURATION stands beside DTEND in it.", {10: "DURATION:PT1H|DTEND:20250310T100000Z"}),
+        ("DTEND behind DURATION", "61 at line 11: DTEND\nVEVENT at line 4: DURATION stands beside DTEND in it.", {10: "DURATION:PT1H|DTEND:20250310T100000Z"}),
         ("the second of two VEVENTs without a UID", "61 at line 12: BEGIN\nVEVENT at line 12: it has no UID.", {11: "|".join(["END:VEVENT", OBJECT[3], *OBJECT[5:11]])}),
         ("a VEVENT behind a VTODO without a UID", "61 at line 6: BEGIN\nVEVENT at line 6: it has no UID.", {4: "BEGIN:VTODO|END:VTODO|BEGIN:VEVENT", 5: ""}),
         ("an alarm with the UID", "61 at line 4: BEGIN\nVEVENT at line 4: it has no UID.", {5: "BEGIN:VALARM|UID:a|END:VALARM"}),
@@ -677,7 +677,7 @@ def explained_objects(cases, program):
     ]:
         meaning = run(program, "explain", wanted.partition(" ")[0])[1]
         cases.holds(f"explain of an object that is {what}", run(program, "explain", given=octets), (1, f"refused {wanted}\n{meaning}", ""))
-    # a line that has the fault, and isn't the one that the object is refused for, is never named
+    # a line that has the fault, and isn't the one that the object is refused for, isn't named
     other = "BEGIN:VTIMEZONE|TZID:U|BEGIN:STANDARD|DTSTART:{start}|TZOFFSETFROM:{offset}|TZOFFSETTO:+0100|END:STANDARD|END:VTIMEZONE|"
     part = "BEGIN:VTIMEZONE|TZID:Z|BEGIN:X-PART|TZOFFSETFROM:+1|END:X-PART|" + zone.split("|", 2)[2]
     for what, wanted, changes in [
@@ -688,8 +688,7 @@ def explained_objects(cases, program):
         ("an address, and one of an alarm", "15 at line 12: ATTENDEE", {5: "UID:a|BEGIN:VALARM|ATTENDEE:x|END:VALARM", 8: "ATTENDEE:mailto:r1@example.com|ATTENDEE:y"}),
         ("a first line that continues nothing", "1 at line 1", {1: " Dear room|BEGIN:VCALENDAR"}),
     ]:
-        said = run(program, "explain", given=changed(changes))[1].partition("\n")[0]
-        cases.holds(f"explain never names a wrong line: {what} ({said})", said in (f"refused {wanted}", f"refused {wanted.partition(' ')[0]}"), True)
+        cases.holds(f"explain never names a wrong line: {what}", run(program, "explain", given=changed(changes))[1].partition("\n")[0], f"refused {wanted}")
     if not shutil.which("awk"):
         cases.lacks("the recipe with awk", "awk")
     else:
