@@ -47,6 +47,7 @@ SCRIPTS = {
     "guide": ("alone", "bash awk groff", []),
     "installed": ("alone", "make dpkg-deb man systemd-analyze", []),
     "page": ("alone", "dateutil", []),
+    "refused_lines": ("alone", "", []),
     "calendars_by_icalendar": ("alone", "icalendar dateutil", []),
     "fuzz": ("alone", "", ["--seconds", "60"]),
     "real_program": ("alone", "", []),
