@@ -275,28 +275,33 @@ def bad_line(draft):
 
 
 def bad_tree(draft):
-    """Components that don't go together, in one way alone; or no VEVENT."""
+    """Components that don't go together, in one way alone; no VEVENT; or a part too many of the zone."""
     chance, event, before, behind = draft.chance, draft.chance.choice(draft.events), draft.before, draft.behind
     if not draft.claims("tree"):
         return
     begin, end = (next(it for it in event if it.text == f"{word}:VEVENT") for word in ("BEGIN", "END"))
-    what = chance.choice(["a line", "a line", "depth", "END", "END and all behind it", "END of VCALENDAR", "VEVENTs"])
+    what = chance.choice(["a line", "a line", "depth", "END", "END and all behind it", "END of VCALENDAR", "VEVENTs", "a third part"])
     if what == "a line":
         lines = [(20, event, "END:VCALENDAR"), *((23, block, "BEGIN:VCALENDAR") for block in (event, behind)), (23, before, "BEGIN:VTODO")]
         number, block, text = chance.choice([*lines, (23, before, "X-A:1"), (23, behind, "X-A:1")])
-        fault = TREE, number, draft.put(block, text, None if block is event else 0)
+        fault = (TREE,), number, draft.put(block, text, None if block is event else 0)
     elif what == "depth":
         depth, block, outer = chance.choice([(1, draft.head, draft.begin), (2, event, begin)])
-        fault = TREE, 22, [draft.put(block, "BEGIN:X-PART", block.index(outer) + 1) for _ in range(8)][depth - 1]
+        fault = (TREE,), 22, [draft.put(block, "BEGIN:X-PART", block.index(outer) + 1) for _ in range(8)][depth - 1]
     elif what == "VEVENTs":
         draft.blocks = [it for it in draft.blocks if not any(it is other for other in draft.events)]
-        fault = EVENTS, 66, None
+        fault = (EVENTS,), 66, None
+    elif what == "a third part" and len(draft.parts) < 2:
+        return
+    elif what == "a third part":
+        draft.blocks.insert(draft.blocks.index(draft.parts[1]), draft.component(*STANDARD, idle=X_PART))
+        fault = ("zone", 0.5), 40, draft.zone[0]
     else:
-        fault = {"END": (TREE, 20, draft.end), "END and all behind it": (OPEN, 21, begin), "END of VCALENDAR": (OPEN, 21, draft.begin)}[what]
+        fault = {"END": ((TREE,), 20, draft.end), "END and all behind it": ((OPEN,), 21, begin), "END of VCALENDAR": ((OPEN,), 21, draft.begin)}[what]
         (draft.end if what == "END of VCALENDAR" else end).text = "X-B:"
         if what == "END and all behind it":
             del draft.blocks[next(at for at, it in enumerate(draft.blocks) if it is event) + 1:]
-    draft.faults.append(((fault[0],), *fault[1:]))
+    draft.faults.append(fault)
 
 
 # ---- objects, and what has to come out
@@ -333,8 +338,8 @@ def made(seed, number):
 
 
 def compared(text):
-    """Of 41 and 42 `explain` names the line that is in the way, and not that of the refusal: the number alone is compared."""
-    return text.partition(" at line ")[0] if text.startswith(("refused 41", "refused 42")) else text
+    """Of 40 to 42 `explain` names the line that is in the way, and not that of the refusal: the number alone is compared."""
+    return text.partition(" at line ")[0] if text.startswith(("refused 40", "refused 41", "refused 42")) else text
 
 
 def main():
