@@ -14,12 +14,12 @@ use Rattle.ical_tree.specs.declared.component.Component.{Component}
 
 -- an object is refused as a message with this number at this line
 pub data MessageBlame (object : Component) : ℕ → ℕ → Type 0 where
-  -- METHOD isn't supported, or occurs twice
+  -- METHOD isn't supported, or occurs twice: a line of METHOD
   method : {at : ℕ} → IsAt (component_numbered object) at (λ line. is_of (codes "METHOD") line ≡ true) → MessageBlame object 60 at
   -- one of its VEVENTs is refused, as its METHOD takes them, or they together
   in_events : {n at : ℕ} (method : Method) → NamesMethod (component_lines object) method → EventsBlame (Some method) (zones_in object) (events_in object) n at
       → MessageBlame object n at
-  -- a VEVENT doesn't have one attendee: its BEGIN
+  -- a VEVENT doesn't have one attendee: the BEGIN of a VEVENT
   attendee : (event : Numbered) → Contains (events_in object) event → MessageBlame object 64 event.begun
 
 -- octets are: their lines, what the lines spell, or the object that they spell

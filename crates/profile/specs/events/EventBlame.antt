@@ -85,7 +85,7 @@ pub data EventBlame (method : Option Method) (zones : List NumberedZone) (event 
   -- the line has it by itself
   alone : {n at : ℕ} (property : Property) → IsAt event.lines at (λ line. (is_named_by line property ≡ true) × IsWrong property line n)
       → EventBlame method zones event n at
-  -- beside other lines of the VEVENT
+  -- a line of a property that can have it beside other lines of the VEVENT
   together : {n at : ℕ} (property : Property) → may_have property n ≡ true → IsAt event.lines at (λ line. is_named_by line property ≡ true)
       → EventBlame method zones event n at
   -- it is the second of a property that may occur once
@@ -103,7 +103,7 @@ pub data EventBlame (method : Option Method) (zones : List NumberedZone) (event 
   in_zone : {n at : ℕ} (named : ℕ) (name : List ℕ) → IsAt event.lines named (names_zone name) → NamedBlame zones named name n at
       → EventBlame method zones event n at
 
--- the VEVENTs of an object are, in the order of the text: one of them; or, as two that contradict each other, the second of them; or there is none
+-- the VEVENTs of an object are, in the order of the text: one of them; or, where two contradict each other, one that isn't the first; or there is none
 pub data EventsBlame (method : Option Method) (zones : List NumberedZone) (events : List Numbered) : ℕ → ℕ → Type 0 where
   in_event : {n at : ℕ} (event : Numbered) → Contains events event → EventBlame method zones event n at → EventsBlame method zones events n at
   second : {n : ℕ} (before after : List Numbered) (event : Numbered) → events ≡ before ++ event ∷ after → 0 < length before
